@@ -1,0 +1,3 @@
+pub mod Words
+pub mod Sha256
+pub mod Going
