@@ -1,2 +1,4 @@
 mod Filled
 mod Scheduled
+mod Ends
+mod Blocks

@@ -41,10 +41,13 @@ bytes8 n =
 abbrev pub zeros : ℕ → ℕ
 zeros n = (119 - n % 64) % 64
 
--- 5.1.1: the message, a 1 bit, zeros, and its length in bits as eight bytes. The standard stops at 2 ^ 64 bits; the remainder
--- keeps the definition total past that.
-unfoldable pub padded : List ℕ → List ℕ
-padded m = m ++ 128 ∷ (replicate (zeros (length m)) 0 ++ bytes8 ((length m * 8) % 2 ^ 64))
+-- 5.1.1: bytes, the last of a message, with what follows them: a 1 bit, zeros, and the message's length in bits as eight bytes
+unfoldable pub ended : List ℕ → ℕ → List ℕ
+ended m bits = m ++ 128 ∷ (replicate (zeros (length m)) 0 ++ bytes8 bits)
+
+-- The standard stops at 2 ^ 64 bits; the remainder keeps the definition total past that.
+abbrev pub padded : List ℕ → List ℕ
+padded m = ended m (length m * 8 % 2 ^ 64)
 
 -- 5.2.1: the i-th block of 64 bytes, and its t-th word
 abbrev pub blockAt : List ℕ → ℕ → List ℕ
@@ -90,10 +93,10 @@ added s t = record {
 unfoldable pub compressed : State → List ℕ → State
 compressed s b = added s (rounds s (schedule (blockWords b) 48) 64)
 
--- the hash value after the first n blocks
-unfoldable pub hashed : List ℕ → ℕ → State
-hashed m zero = initial
-hashed m (suc n) = compressed (hashed m n) (blockAt m n)
+-- the hash value after the first n blocks of m, begun with s
+unfoldable pub hashed : State → List ℕ → ℕ → State
+hashed s m zero = s
+hashed s m (suc n) = compressed (hashed s m n) (blockAt m n)
 
 -- the words of a hash value, and its bytes
 abbrev pub wordsOf : State → List ℕ
@@ -104,4 +107,4 @@ bytesOf s = joined bytes4 (wordsOf s)
 
 -- the digest of a message
 unfoldable pub sha256Of : List ℕ → List ℕ
-sha256Of m = bytesOf (hashed (padded m) (length (padded m) / 64))
+sha256Of m = bytesOf (hashed initial (padded m) (length (padded m) / 64))
