@@ -7,7 +7,7 @@ use native.Mathlib.Numerals.{add-one}
 use native.Mathlib.Nat.{add-zero, add-suc}
 use native.Mathlib.Omega.{arith}
 use lib.ListN.{length, take, drop, replicate}
-use Rattle.std.proofs.shelf.Lists.{drop-append-le, drop-at, drop-drop, drop-take, length-append, length-drop, length-replicate, length-take-le, take-all, take-append-drop, take-append-le, take-take}
+use Rattle.std.proofs.shelf.Lists.{drop-append-le, drop-at, drop-drop, drop-take, length-append, length-drop, length-replicate, length-take-le, take-all, take-append-drop, take-append-le, take-at, take-take}
 use Rattle.digest.specs.declared.block.State.{State}
 use Rattle.digest.specs.Sha256.{blockAt, bytes8, compressed, ended, hashed, zeros}
 
@@ -123,3 +123,10 @@ module _ (m : List ℕ) (bits : ℕ) where
   all-blocks s =
       sym ((λ i. hashed s (split-end i) (count i)) ∙ back-blocks s first (ended rest bits) whole (length (ended rest bits) / 64) length-first ∙
       ap (λ x. hashed x (ended rest bits) (length (ended rest bits) / 64)) (own-blocks s))
+
+-- the padded message is whole blocks, and begins with the message
+pub padding : (m : List ℕ) (bits : ℕ) →
+    (length (ended m bits) % 64 ≡ 0) × (take (length m) (ended m bits) ≡ m) × (zeros (length m) < 64)
+unfolding ended
+padding m bits =
+    (omega (arith, length-ended m bits), take-at m (128 ∷ (replicate (zeros (length m)) 0 ++ bytes8 bits)) (length m) refl, omega arith)

@@ -2,3 +2,4 @@ mod Filled
 mod Scheduled
 mod Ends
 mod Blocks
+mod Bitwise

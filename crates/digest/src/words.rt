@@ -2,18 +2,18 @@
 ghost use mathlib.Core.Path.{_≡_};
 ghost use Rattle.digest.specs.Words.{Ch, Maj, Σ0, Σ1, σ0, σ1};
 
-// For each bit, y's where x has a 1 and z's where it has a 0.
+// For each bit, y's where x has a 1 and z's where it has a 0. One operation less than as the standard writes it.
 pub fn choose(x: u32, y: u32, z: u32) -> u32
     ensures { λ r. ⌜ r ≡ Ch x y z ⌝ }
 {
-    (x & y) ^ (!x & z)
+    z ^ (x & (y ^ z))
 }
 
-// For each bit, the one that at least two of the three have.
+// For each bit, the one that at least two of the three have. Written so, a round shares x ^ y with the round before.
 pub fn majority(x: u32, y: u32, z: u32) -> u32
     ensures { λ r. ⌜ r ≡ Maj x y z ⌝ }
 {
-    (x & y) ^ (x & z) ^ (y & z)
+    y ^ ((x ^ y) & (y ^ z))
 }
 
 pub fn big_sigma0(x: u32) -> u32
