@@ -47,7 +47,7 @@ module _ (r : List ℕ) (bits : ℕ) where
         let long : length (ended r bits) ≡ 128 = length-ended r bits ∙ omega arith in
         let one : take 64 (ended r bits) ≡ take 64 e = ap (take 64) same ∙ take-take 64 128 e (omega arith) in
         let two : take 64 (drop 64 (ended r bits)) ≡ take 64 (drop 64 e) =
-            ap (λ l. take 64 (drop 64 l)) same ∙ ap (take 64) (drop-take 64 64 e) ∙ take-take 64 64 (drop 64 e) (omega arith) in
+        ap (λ l. take 64 (drop 64 l)) same ∙ ap (take 64) (drop-take 64 64 e) ∙ take-take 64 64 (drop 64 e) (omega arith) in
         sym (ap (λ n. hashed s (ended r bits) (n / 64)) long ∙ (λ i. compressed (compressed s (one i)) (two i)))
 
 -- one block more of a message's own
@@ -73,7 +73,7 @@ back-blocks s p t q zero l =
 back-blocks s p t q (suc j) l =
     let split : 64 * (q + j) ≡ 64 * q + 64 * j = omega arith in
     let past : drop (64 * (q + j)) (p ++ t) ≡ drop (64 * j) t =
-        ap (λ n. drop n (p ++ t)) split ∙ sym (drop-drop (64 * j) (64 * q) (p ++ t)) ∙ ap (drop (64 * j)) (drop-at p t (64 * q) l) in
+    ap (λ n. drop n (p ++ t)) split ∙ sym (drop-drop (64 * j) (64 * q) (p ++ t)) ∙ ap (drop (64 * j)) (drop-at p t (64 * q) l) in
     ap (hashed s (p ++ t)) (add-suc q j) ∙ (λ i. compressed (back-blocks s p t q j l i) (take 64 (past i)))
 
 -- a message's whole blocks, and then those of its padded end

@@ -68,7 +68,7 @@ module _ (ws out : List ℕ) (i : ℕ) where
       let b = bytes4 (getD ws i 0) in
       let after = drop (4 * i + 4) out in
       let long : length (take (4 * i) out ++ b) ≡ 4 * (i + 1) =
-          length-append (take (4 * i) out) b ∙ omega (arith, length-take-le (4 * i) out low) in
+      length-append (take (4 * i) out) b ∙ omega (arith, length-take-le (4 * i) out low) in
       ap (take (4 * (i + 1))) (sym (append-assoc (take (4 * i) out) b after)) ∙ take-at (take (4 * i) out ++ b) after (4 * (i + 1)) long ∙
       ap (λ l. l ++ b) w ∙ joined-more bytes4 [] (take i ws) (getD ws i 0) ∙ ap (joined bytes4) (sym (take-more ws i 0 inside))
 

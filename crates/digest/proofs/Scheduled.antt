@@ -60,15 +60,16 @@ going-more m s t u w v x y e l h p q g =
     let long : t < length m + t = omega (arith, g .whole) in
     let rest : t + (48 - t) ≡ 48 = omega arith in
     let here : getD w t 0 ≡ getD (schedule m 48) t 0 =
-        word-in w (schedule m t) t (g .words) t near ∙ sym (stays m t (48 - t) t long) ∙ ap (λ j. getD (schedule m j) t 0) rest in
+    word-in w (schedule m t) t (g .words) t near ∙ sym (stays m t (48 - t) t long) ∙ ap (λ j. getD (schedule m j) t 0) rest in
     record {
       whole = g .whole;
       words =
-        (λ i. take (far i) (q i)) ∙ take-more-set w (t + 16) (nextWord w (t + 16)) room ∙
-        (λ i. ((ap (λ j. take j w) turn ∙ g .words) i) ++ (same-word w (schedule m t) t (g .words) i) ∷ []) ∙
-        sym (ap (schedule m) (e ∙ add-one t));
+          (λ i. take (far i) (q i)) ∙ take-more-set w (t + 16) (nextWord w (t + 16)) room ∙
+          (λ i. ((ap (λ j. take j w) turn ∙ g .words) i) ++ (same-word w (schedule m t) t (g .words) i) ∷ []) ∙
+          sym (ap (schedule m) (e ∙ add-one t));
       state =
-        rounds-more s (schedule m 48) t u x y e (g .state) (p ∙ ap (roundOf x (getD constants t 0)) here) }
+          rounds-more s (schedule m 48) t u x y e (g .state) (p ∙ ap (roundOf x (getD constants t 0)) here);
+    }
 
 -- no step yet: the block's words are there
 pub going-none : (m : List ℕ) (s : State) (w : List ℕ) → length m ≡ 16 → take 16 w ≡ m → Going m s 0 w s

@@ -25,8 +25,15 @@ constants =
 -- 5.3.3: the hash value before the first block
 abbrev pub initial : State
 initial = record {
-    a = 0x6a09e667; b = 0xbb67ae85; c = 0x3c6ef372; d = 0xa54ff53a;
-    e = 0x510e527f; f = 0x9b05688c; g = 0x1f83d9ab; h = 0x5be0cd19 }
+  a = 0x6a09e667;
+  b = 0xbb67ae85;
+  c = 0x3c6ef372;
+  d = 0xa54ff53a;
+  e = 0x510e527f;
+  f = 0x9b05688c;
+  g = 0x1f83d9ab;
+  h = 0x5be0cd19;
+}
 
 -- the bytes of a word, and of a number of 64 bits
 abbrev pub bytes4 : ℕ → List ℕ
@@ -76,8 +83,15 @@ T2 s = add32 (Σ0 (s .a)) (Maj (s .a) (s .b) (s .c))
 
 unfoldable pub roundOf : State → ℕ → ℕ → State
 roundOf s k w = record {
-    a = add32 (T1 s k w) (T2 s); b = s .a; c = s .b; d = s .c;
-    e = add32 (s .d) (T1 s k w); f = s .e; g = s .f; h = s .g }
+  a = add32 (T1 s k w) (T2 s);
+  b = s .a;
+  c = s .b;
+  d = s .c;
+  e = add32 (s .d) (T1 s k w);
+  f = s .e;
+  g = s .f;
+  h = s .g;
+}
 
 unfoldable pub rounds : State → List ℕ → ℕ → State
 rounds s w zero = s
@@ -86,8 +100,15 @@ rounds s w (suc t) = roundOf (rounds s w t) (getD constants t 0) (getD w t 0)
 -- step 4: word by word
 abbrev pub added : State → State → State
 added s t = record {
-    a = add32 (s .a) (t .a); b = add32 (s .b) (t .b); c = add32 (s .c) (t .c); d = add32 (s .d) (t .d);
-    e = add32 (s .e) (t .e); f = add32 (s .f) (t .f); g = add32 (s .g) (t .g); h = add32 (s .h) (t .h) }
+  a = add32 (s .a) (t .a);
+  b = add32 (s .b) (t .b);
+  c = add32 (s .c) (t .c);
+  d = add32 (s .d) (t .d);
+  e = add32 (s .e) (t .e);
+  f = add32 (s .f) (t .f);
+  g = add32 (s .g) (t .g);
+  h = add32 (s .h) (t .h);
+}
 
 -- steps 1 to 4: what a block makes of the hash value
 unfoldable pub compressed : State → List ℕ → State

@@ -5,24 +5,13 @@ ghost use mathlib.Core.Path.{_≡_};
 ghost use lib.ListN.{length, getD, set, take};
 ghost use Rattle.digest.specs.Sha256.{added, blockWords, compressed, constants, nextWord, roundOf, rounds, wordAt};
 ghost use Rattle.digest.specs.Going.{Going};
+use crate::constants::K;
 use crate::words::big_sigma0;
 use crate::words::big_sigma1;
 use crate::words::choose;
 use crate::words::majority;
 use crate::words::small_sigma0;
 use crate::words::small_sigma1;
-
-// The constants of the 64 rounds.
-const K: [u32; 64] = [
-    0x428a2f98, 0x71374491, 0xb5c0fbcf, 0xe9b5dba5, 0x3956c25b, 0x59f111f1, 0x923f82a4, 0xab1c5ed5,
-    0xd807aa98, 0x12835b01, 0x243185be, 0x550c7dc3, 0x72be5d74, 0x80deb1fe, 0x9bdc06a7, 0xc19bf174,
-    0xe49b69c1, 0xefbe4786, 0x0fc19dc6, 0x240ca1cc, 0x2de92c6f, 0x4a7484aa, 0x5cb0a9dc, 0x76f988da,
-    0x983e5152, 0xa831c66d, 0xb00327c8, 0xbf597fc7, 0xc6e00bf3, 0xd5a79147, 0x06ca6351, 0x14292967,
-    0x27b70a85, 0x2e1b2138, 0x4d2c6dfc, 0x53380d13, 0x650a7354, 0x766a0abb, 0x81c2c92e, 0x92722c85,
-    0xa2bfe8a1, 0xa81a664b, 0xc24b8b70, 0xc76c51a3, 0xd192e819, 0xd6990624, 0xf40e3585, 0x106aa070,
-    0x19a4c116, 0x1e376c08, 0x2748774c, 0x34b0bcb5, 0x391c0cb3, 0x4ed8aa4a, 0x5b9cca4f, 0x682e6ff3,
-    0x748f82ee, 0x78a5636f, 0x84c87814, 0x8cc70208, 0x90befffa, 0xa4506ceb, 0xbef9a3f7, 0xc67178f2,
-];
 
 // The eight words of a hash value, which are also the working variables of the rounds.
 #[derive(Clone, Copy)]
@@ -40,9 +29,22 @@ pub struct State {
 fn round(s: State, k: u32, w: u32) -> State
     ensures { λ r. ⌜ r ≡ roundOf s k w ⌝ }
 {
-    let t1 = s.h.wrapping_add(big_sigma1(s.e)).wrapping_add(choose(s.e, s.f, s.g)).wrapping_add(k).wrapping_add(w);
+    let t1 = s.h
+        .wrapping_add(big_sigma1(s.e))
+        .wrapping_add(choose(s.e, s.f, s.g))
+        .wrapping_add(k)
+        .wrapping_add(w);
     let t2 = big_sigma0(s.a).wrapping_add(majority(s.a, s.b, s.c));
-    State { a: t1.wrapping_add(t2), b: s.a, c: s.b, d: s.c, e: s.d.wrapping_add(t1), f: s.e, g: s.f, h: s.g }
+    State {
+        a: t1.wrapping_add(t2),
+        b: s.a,
+        c: s.b,
+        d: s.c,
+        e: s.d.wrapping_add(t1),
+        f: s.e,
+        g: s.f,
+        h: s.g,
+    }
 }
 
 fn round_at(s: State, w: &[u32; 64], t: usize) -> State
@@ -56,14 +58,22 @@ fn next_word(w: &[u32; 64], t: usize) -> u32
     requires { ⌜ 16 ≤ t ⌝ ∗ ⌜ t < 64 ⌝ }
     ensures { λ r. ⌜ r ≡ nextWord (now (w .entry)) t ⌝ }
 {
-    small_sigma1(w[t - 2]).wrapping_add(w[t - 7]).wrapping_add(small_sigma0(w[t - 15])).wrapping_add(w[t - 16])
+    small_sigma1(w[t - 2])
+        .wrapping_add(w[t - 7])
+        .wrapping_add(small_sigma0(w[t - 15]))
+        .wrapping_add(w[t - 16])
 }
 
 fn word_at(block: &[u8], t: usize) -> u32
     requires { ⌜ 4 * t + 3 < length (now block) ⌝ }
     ensures { λ r. ⌜ r ≡ wordAt (now (block .entry)) t ⌝ }
 {
-    u32::from_be_bytes([block[4 * t], block[4 * t + 1], block[4 * t + 2], block[4 * t + 3]])
+    u32::from_be_bytes([
+        block[4 * t],
+        block[4 * t + 1],
+        block[4 * t + 2],
+        block[4 * t + 3],
+    ])
 }
 
 fn added_up(s: State, t: State) -> State

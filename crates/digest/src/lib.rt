@@ -3,31 +3,22 @@ ghost use Prim.Native.Nat.{_/_, _<_, _≤_};
 ghost use lib.ListN.{drop, length};
 ghost use mathlib.Core.Path.{_≡_};
 ghost use Rattle.std.specs.Options.{Cases as BySome};
-ghost use Rattle.digest.specs.Laws.{KnownAnswers, Padding};
+ghost use Rattle.digest.specs.Laws.{KnownAnswers, Origin, Padding};
 ghost use Rattle.digest.specs.Sha256.{hashed, initial, sha256Of};
+
 mod block;
+mod constants;
 mod padding;
 mod words;
 
 use block::State;
 use block::compress;
+use constants::INITIAL;
 use padding::last_blocks;
 use padding::to_bytes;
 
 // Where the receipts of a page begin: behind its kind, height, parent's digest and the receipts' length.
 const RECEIPTS_AT: usize = 39;
-
-// The hash value before the first block.
-const INITIAL: State = State {
-    a: 0x6a09e667,
-    b: 0xbb67ae85,
-    c: 0x3c6ef372,
-    d: 0xa54ff53a,
-    e: 0x510e527f,
-    f: 0x9b05688c,
-    g: 0x1f83d9ab,
-    h: 0x5be0cd19,
-};
 
 fn whole_blocks(bytes: &[u8]) -> State
     ensures { λ r. ⌜ r ≡ hashed initial (now (bytes .entry)) (length (now (bytes .entry)) / 64) ⌝ }
@@ -62,6 +53,13 @@ pub fn receipts_digest(page: &[u8]) -> Option<[u8; 32]>
 // The padding is what it is for: whole blocks that begin with the message.
 pub fn padding_stands() -> u8
     ensures { λ _. ⌜ Padding ⌝ }
+{
+    0
+}
+
+// The definition's constants are no one's choice: they are digits of roots of primes.
+pub fn origin_stands() -> u8
+    ensures { λ _. ⌜ Origin ⌝ }
 {
     0
 }

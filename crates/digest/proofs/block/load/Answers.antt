@@ -10,9 +10,10 @@ use Rattle.digest.proofs.block.load.Needs as need
 
 pub loop-t-again : need.loop-t-again
 loop-t-again c =
-    let h : c .loop-t .t < length (c .loop-t .w) = omega arith in
-    (length-set (c .loop-t .w) (c .loop-t .t) (c .word-at .result) ∙ c .loop-t .inv .0,
-    filled-more (wordAt (c .args .block .now)) (c .loop-t .w) (c .loop-t .t) (c .word-at .result) h (c .loop-t .inv .1) (c .word-at .ensures))
+    let h : c .loop-t .t < length (c .loop-t .w) = omega arith in (
+      length-set (c .loop-t .w) (c .loop-t .t) (c .word-at .result) ∙ c .loop-t .inv .0,
+      filled-more (wordAt (c .args .block .now)) (c .loop-t .w) (c .loop-t .t) (c .word-at .result) h (c .loop-t .inv .1) (c .word-at .ensures),
+    )
 
 pub returns : need.returns
 unfolding blockWords

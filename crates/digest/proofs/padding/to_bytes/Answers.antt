@@ -15,10 +15,11 @@ loop-i-again c =
     let out = c .loop-i .out in
     let room : 4 * i + 4 ≤ length out = omega (arith, c .loop-i .inv .0, c .loop-i-test .taken) in
     let e : c .put .last .out ≡ written out (4 * i) (bytes4 (getD ws i 0)) =
-        c .put .ensures ∙ ap (written out (4 * i)) (c .to-be-bytes .ensures) in
-    let P : List ℕ → Type 0 = λ l. Written ws l (i + 1) in
-    (ap length e ∙ length-written ws out i (bytes4 (getD ws i 0)) refl room ∙ c .loop-i .inv .0,
-    subst P (sym e) (written-more ws out i (c .loop-i-test .taken) room (c .loop-i .inv .1)))
+    c .put .ensures ∙ ap (written out (4 * i)) (c .to-be-bytes .ensures) in
+    let P : List ℕ → Type 0 = λ l. Written ws l (i + 1) in (
+      ap length e ∙ length-written ws out i (bytes4 (getD ws i 0)) refl room ∙ c .loop-i .inv .0,
+      subst P (sym e) (written-more ws out i (c .loop-i-test .taken) room (c .loop-i .inv .1)),
+    )
 
 pub returns : need.returns
 returns c =
