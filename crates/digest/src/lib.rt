@@ -51,22 +51,16 @@ pub fn receipts_digest(page: &[u8]) -> Option<[u8; 32]>
 }
 
 // The padding is what it is for: whole blocks that begin with the message.
-pub fn padding_stands() -> u8
+pub fn padding_stands()
     ensures { λ _. ⌜ Padding ⌝ }
-{
-    0
-}
+{}
 
 // The definition's constants are no one's choice: they are digits of roots of primes.
-pub fn origin_stands() -> u8
+pub fn origin_stands()
     ensures { λ _. ⌜ Origin ⌝ }
-{
-    0
-}
+{}
 
 // The definition gives what the standard's examples give.
-pub fn known_answers_stand() -> u8
+pub fn known_answers_stand()
     ensures { λ _. ⌜ KnownAnswers ⌝ }
-{
-    0
-}
+{}

@@ -1,0 +1,17 @@
+use mathlib.Core.Path.{_≡_}
+use mathlib.Core.List.{_++_}
+use Prim.Native.Nat.{_+_, _≤_}
+use lib.ListN.{length}
+use Rattle.rehearse.specs.Answers.{answers}
+use Rattle.std.specs.Of.String.{string-bytes}
+use Rattle.text.specs.Lines.{lines}
+use Rattle.rehearse.proofs.answer_piece.Given as given
+
+abbrev pub Inv-loop-line : given.InvT-loop-line
+Inv-loop-line l =
+    (string-bytes (l .out) ++ answers (l .at) (lines (l .rest)) ≡ string-bytes (l .entry .out) ++ answers (l .number) (lines (l .script)))
+    × (l .at + length (l .rest) ≤ l .number + length (l .script))
+    × (length (l .rest) ≤ length (l .script))
+
+abbrev pub μ-loop-line : given.MeasureT-loop-line
+μ-loop-line l = length (l .rest)

@@ -1,0 +1,100 @@
+// Rehearses a script: answers each of its lines, and says at the end what is settled and what is final.
+ghost use mathlib.Core.List.{_++_};
+ghost use mathlib.Core.Path.{_≡_};
+ghost use Prim.Native.Nat.{_+_, _^_, _<_};
+ghost use lib.Chars.{codes};
+ghost use lib.ListN.{length};
+ghost use Rattle.rehearse.specs.Pieces.{Piece};
+ghost use Rattle.std.specs.Of.String.{string-bytes};
+ghost use Rattle.std.specs.Vec.{made};
+
+mod answers;
+mod fault;
+
+use answers::answer_line;
+use answers::report;
+use fault::Fault;
+use fault::FaultDisplay;
+use fault::FaultFromAlloc;
+use fault::FaultFromFmt;
+use fault::FaultFromIo;
+use std::fmt;
+use std::io::Read;
+use std::io::Write;
+use voters::Voters;
+
+// Answers go out whenever this many bytes of them are there: they can be many times as long as the script.
+const PIECE: usize = 65_536;
+
+fn main(rt: LibcRuntime) -> Result<(), Fault> {
+    let outcome = run(&rt);
+    if let Err(fault) = &outcome {
+        let _ = eprintln!(rt, "rehearse: {fault}");
+    }
+    outcome
+}
+
+fn run(rt: &LibcRuntime) -> Result<(), Fault> {
+    let script = read_script(rt)?;
+    let Some((line, rest)) = text::first_line(script.as_slice()) else {
+        return Err(Fault::Weights);
+    };
+    // Nothing that is answered yet asks for the voters.
+    let Some(_voters) = Voters::read(line) else {
+        return Err(Fault::Weights);
+    };
+    rehearse(rt, rest)
+}
+
+fn read_script(rt: &LibcRuntime) -> Result<Vec<u8>, Fault> {
+    let mut script = Vec::new(rt.alloc());
+    rt.stdin().read_to_end(&mut script)?;
+    Ok(script)
+}
+
+// Answers what follows the first line of a script.
+fn rehearse(rt: &LibcRuntime, script: &[u8]) -> Result<(), Fault> {
+    let mut out = String::new(rt.alloc());
+    let mut rest = script;
+    let mut number = 2u64;
+    while !rest.is_empty() {
+        let (after, next) = answer_piece(&mut out, rest, number)?;
+        rest = after;
+        number = next;
+        rt.stdout().write_all(out.as_bytes())?;
+        out.clear();
+    }
+    conclude(&mut out)?;
+    rt.stdout().write_all(out.as_bytes())?;
+    Ok(())
+}
+
+// Answers lines, of which the first is numbered `number`, until `out` holds a piece or no line is left. What is then left, and the
+// number of its first line, are given back.
+fn answer_piece<'a>(
+    out: &mut String,
+    script: &'a [u8],
+    number: u64,
+) -> Result<(&'a [u8], u64), Fault>
+    requires { ⌜ number + length (now script) < 2 ^ 64 ⌝ }
+    ensures { λ r. ⌜ made r (λ p. Piece (string-bytes (now (out .entry))) (now (script .entry)) number (string-bytes (now (out .exit))) (now (p .0)) (p .1)) ⌝ }
+{
+    let mut rest = script;
+    let mut at = number;
+    while let Some((line, after)) = text::first_line(rest) {
+        report(out, at, answer_line(line))?;
+        at += 1;
+        rest = after;
+        if out.len() >= PIECE {
+            return Ok((rest, at));
+        }
+    }
+    Ok((rest, at))
+}
+
+// No page but the one numbered 0 is settled, and none is final.
+fn conclude(out: &mut String) -> fmt::Result
+    ensures { λ r. ⌜ made r (λ _. string-bytes (now (out .exit)) ≡ string-bytes (now (out .entry)) ++ codes "settled 0\nfinal\n") ⌝ }
+{
+    write!(out, "settled 0\nfinal\n")
+}

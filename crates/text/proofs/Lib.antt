@@ -1,0 +1,4 @@
+pub mod Cuts
+pub mod Wording
+pub mod Reading
+pub mod Table
