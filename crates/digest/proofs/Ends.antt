@@ -1,6 +1,6 @@
 -- Lists written into an array one behind the other: the padded end of a message, and the bytes of words.
 -- Assumes nothing.
-use mathlib.Core.Path.{_≡_, refl, _∙_, ap, sym}
+use mathlib.Core.Path.{_≡_, refl, _∙_, ap, subst, sym}
 use mathlib.Core.List.{List, [], _∷_, _++_, append-assoc}
 use Prim.Native.Nat.{ℕ, suc, _+_, _-_, _*_, _<_, _≤_}
 use native.Mathlib.Omega.{arith}
@@ -30,7 +30,7 @@ module _ (r : List ℕ) (bits n size : ℕ) (room : length r + 9 ≤ size) (fits
   two = omega arith
 
   -- the array once the rest and the byte 128 are in it
-  unfoldable pub marked : List ℕ
+  marked : List ℕ
   marked = set (written (replicate n 0) 0 r) (length r) 128
 
   marked-is : marked ≡ front ++ replicate (n + 8 - size) 0
@@ -41,7 +41,7 @@ module _ (r : List ℕ) (bits n size : ℕ) (room : length r + 9 ≤ size) (fits
       ap (λ l. r ++ 128 ∷ l) (ap (λ j. replicate j 0) two ∙ sym (replicate-append-replicate (size - 9 - length r) (n + 8 - size) 0)) ∙
       sym (append-assoc r (128 ∷ replicate (size - 9 - length r) 0) (replicate (n + 8 - size) 0))
 
-  pub end-is : take size (written marked (size - 8) (bytes8 bits)) ≡ r ++ 128 ∷ (replicate (size - 9 - length r) 0 ++ bytes8 bits)
+  end-is : take size (written marked (size - 8) (bytes8 bits)) ≡ r ++ 128 ∷ (replicate (size - 9 - length r) 0 ++ bytes8 bits)
   unfolding front
   end-is =
       let after = drop (size - 8 + 8) marked in
@@ -51,19 +51,26 @@ module _ (r : List ℕ) (bits n size : ℕ) (room : length r + 9 ≤ size) (fits
       ap (take size) (sym (append-assoc front (bytes8 bits) after)) ∙ take-at (front ++ bytes8 bits) after size whole ∙
       append-assoc r (128 ∷ replicate (size - 9 - length r) 0) (bytes8 bits)
 
+  -- the three writes: the rest, the byte 128, the length
+  pub end-written : (first bytes last : List ℕ) → first ≡ written (replicate n 0) 0 r → bytes ≡ bytes8 bits →
+      last ≡ written (set first (length r) 128) (size - 8) bytes →
+      take size last ≡ r ++ 128 ∷ (replicate (size - 9 - length r) 0 ++ bytes8 bits)
+  unfolding marked
+  end-written first bytes last e b l =
+      ap (take size) (l ∙ (λ i. written (set (e i) (length r) 128) (size - 8) (b i))) ∙ end-is
+
 -- the bytes of the words, written one word after the other
 abbrev pub Written : List ℕ → List ℕ → ℕ → Type 0
 Written ws out i = take (4 * i) out ≡ joined bytes4 (take i ws)
 
 module _ (ws out : List ℕ) (i : ℕ) where
-  pub length-written : (b : List ℕ) → length b ≡ 4 → 4 * i + 4 ≤ length out → length (written out (4 * i) b) ≡ length out
+  length-written : (b : List ℕ) → length b ≡ 4 → 4 * i + 4 ≤ length out → length (written out (4 * i) b) ≡ length out
   length-written b l h =
       let low : 4 * i ≤ length out = omega arith in
       simp (length-append, length-drop) (omega (arith, length-take-le (4 * i) out low))
 
-  pub written-more : i < length ws → 4 * i + 4 ≤ length out → Written ws out i →
-      Written ws (written out (4 * i) (bytes4 (getD ws i 0))) (i + 1)
-  written-more inside h w =
+  one-word : i < length ws → 4 * i + 4 ≤ length out → Written ws out i → Written ws (written out (4 * i) (bytes4 (getD ws i 0))) (i + 1)
+  one-word inside h w =
       let low : 4 * i ≤ length out = omega arith in
       let b = bytes4 (getD ws i 0) in
       let after = drop (4 * i + 4) out in
@@ -71,6 +78,13 @@ module _ (ws out : List ℕ) (i : ℕ) where
       length-append (take (4 * i) out) b ∙ omega (arith, length-take-le (4 * i) out low) in
       ap (take (4 * (i + 1))) (sym (append-assoc (take (4 * i) out) b after)) ∙ take-at (take (4 * i) out ++ b) after (4 * (i + 1)) long ∙
       ap (λ l. l ++ b) w ∙ joined-more bytes4 [] (take i ws) (getD ws i 0) ∙ ap (joined bytes4) (sym (take-more ws i 0 inside))
+
+  pub written-more : (b next : List ℕ) → b ≡ bytes4 (getD ws i 0) → next ≡ written out (4 * i) b → i < length ws →
+      4 * i + 4 ≤ length out → Written ws out i → (length next ≡ length out) × Written ws next (i + 1)
+  written-more b next e f inside h w =
+      let whole : next ≡ written out (4 * i) (bytes4 (getD ws i 0)) = f ∙ ap (written out (4 * i)) e in
+      let P : List ℕ → Type 0 = λ l. Written ws l (i + 1) in
+      (ap length whole ∙ length-written (bytes4 (getD ws i 0)) refl h, subst P (sym whole) (one-word inside h w))
 
   pub written-all : length ws ≤ i → length out ≤ 4 * i → Written ws out i → out ≡ joined bytes4 ws
   written-all h l w = sym (take-all (4 * i) out l) ∙ w ∙ ap (joined bytes4) (take-all i ws h)

@@ -15,7 +15,7 @@ use crate::words::small_sigma1;
 
 // The eight words of a hash value, which are also the working variables of the rounds.
 #[derive(Clone, Copy)]
-pub struct State {
+pub(crate) struct State {
     pub a: u32,
     pub b: u32,
     pub c: u32,
@@ -154,7 +154,7 @@ fn mix(s: State, w: &mut [u32; 64]) -> State
     y
 }
 
-pub fn compress(s: State, block: &[u8]) -> State
+pub(crate) fn compress(s: State, block: &[u8]) -> State
     requires { ⌜ length (now block) ≡ 64 ⌝ }
     ensures { λ r. ⌜ r ≡ compressed s (now (block .entry)) ⌝ }
 {

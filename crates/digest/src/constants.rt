@@ -2,7 +2,7 @@
 use crate::block::State;
 
 // The hash value before the first block.
-pub const INITIAL: State = State {
+pub(crate) const INITIAL: State = State {
     a: 0x6a09e667,
     b: 0xbb67ae85,
     c: 0x3c6ef372,
@@ -14,7 +14,7 @@ pub const INITIAL: State = State {
 };
 
 // The constants of the 64 rounds.
-pub const K: [u32; 64] = [
+pub(crate) const K: [u32; 64] = [
     0x428a2f98,
     0x71374491,
     0xb5c0fbcf,

@@ -29,7 +29,7 @@ fn padded_end(rest: &[u8], bits: u64, size: usize) -> [u8; 128]
 }
 
 // The one or two blocks at a message's end: rest is what its whole blocks leave, bits the length of all of it.
-pub fn last_blocks(s: State, rest: &[u8], bits: u64) -> State
+pub(crate) fn last_blocks(s: State, rest: &[u8], bits: u64) -> State
     requires { ⌜ length (now rest) < 64 ⌝ }
     ensures { λ r. ⌜ r ≡ hashed s (ended (now (rest .entry)) bits) (length (ended (now (rest .entry)) bits) / 64) ⌝ }
 {
@@ -42,7 +42,7 @@ pub fn last_blocks(s: State, rest: &[u8], bits: u64) -> State
     compress(first, &end[64..128])
 }
 
-pub fn to_bytes(s: State) -> [u8; 32]
+pub(crate) fn to_bytes(s: State) -> [u8; 32]
     ensures { λ r. ⌜ r ≡ bytesOf s ⌝ }
 {
     let words = [s.a, s.b, s.c, s.d, s.e, s.f, s.g, s.h];
