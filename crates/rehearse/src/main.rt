@@ -52,15 +52,22 @@ fn read_script(rt: &LibcRuntime) -> Result<Vec<u8>, Fault> {
     Ok(script)
 }
 
+// How far a script is answered: what is left of it, and the number of the first line of that.
+#[derive(Clone, Copy)]
+struct Place<'a> {
+    rest: &'a [u8],
+    number: u64,
+}
+
 // Answers what follows the first line of a script.
 fn rehearse(rt: &LibcRuntime, script: &[u8]) -> Result<(), Fault> {
     let mut out = String::new(rt.alloc());
-    let mut rest = script;
-    let mut number = 2u64;
-    while !rest.is_empty() {
-        let (after, next) = answer_piece(&mut out, rest, number)?;
-        rest = after;
-        number = next;
+    let mut place = Place {
+        rest: script,
+        number: 2,
+    };
+    while !place.rest.is_empty() {
+        place = answer_piece(&mut out, place)?;
         rt.stdout().write_all(out.as_bytes())?;
         out.clear();
     }
@@ -69,27 +76,22 @@ fn rehearse(rt: &LibcRuntime, script: &[u8]) -> Result<(), Fault> {
     Ok(())
 }
 
-// Answers lines, of which the first is numbered `number`, until `out` holds a piece or no line is left. What is then left, and the
-// number of its first line, are given back.
-fn answer_piece<'a>(
-    out: &mut String,
-    script: &'a [u8],
-    number: u64,
-) -> Result<(&'a [u8], u64), Fault>
-    requires { ⌜ number + length (now script) < 2 ^ 64 ⌝ }
-    ensures { λ r. ⌜ made r (λ p. Piece (string-bytes (now (out .entry))) (now (script .entry)) number (string-bytes (now (out .exit))) (now (p .0)) (p .1)) ⌝ }
+// Answers lines from a place on until `out` holds a piece or no line is left, and says how far it came.
+fn answer_piece<'a>(out: &mut String, from: Place<'a>) -> Result<Place<'a>, Fault>
+    requires { ⌜ from .number + length (now (from .rest)) < 2 ^ 64 ⌝ }
+    ensures { λ r. ⌜ made r (λ p. Piece (string-bytes (now (out .entry))) (now (from .entry .rest)) (from .entry .number) (string-bytes (now (out .exit))) (now (p .rest)) (p .number)) ⌝ }
 {
-    let mut rest = script;
-    let mut at = number;
+    let mut rest = from.rest;
+    let mut number = from.number;
     while let Some((line, after)) = text::first_line(rest) {
-        report(out, at, answer_line(line))?;
-        at += 1;
+        report(out, number, answer_line(line))?;
+        number += 1;
         rest = after;
         if out.len() >= PIECE {
-            return Ok((rest, at));
+            return Ok(Place { rest, number });
         }
     }
-    Ok((rest, at))
+    Ok(Place { rest, number })
 }
 
 // No page but the one numbered 0 is settled, and none is final.

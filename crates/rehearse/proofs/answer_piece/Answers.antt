@@ -7,7 +7,7 @@ pub returns-then-len-ge-PIECE : need.returns-then-len-ge-PIECE
 returns-then-len-ge-PIECE c =
     let first = c .in-Some .ensures tt in
     record {
-      whole = turn (string-bytes (c .loop-line .out)) (c .loop-line .rest .now) (c .in-Some .after .now) (c .loop-line .at) (c .loop-line .inv .0) (first .of-all) (c .answer-line .ensures) (c .in-Continue-report .ensures tt);
+      whole = turn (string-bytes (c .loop-line .out)) (c .loop-line .rest .now) (c .in-Some .after .now) (c .loop-line .number) (c .loop-line .inv .0) (first .of-all) (c .answer-line .ensures) (c .in-Continue-report .ensures tt);
       bound = omega (arith, c .loop-line .inv .1, first .shorter);
       shorter = λ h. omega (arith, c .loop-line .inv .2, first .shorter);
     }
@@ -15,7 +15,7 @@ returns-then-len-ge-PIECE c =
 pub loop-line-again : need.loop-line-again
 loop-line-again c =
     let first = c .in-Some .ensures tt in (
-      turn (string-bytes (c .loop-line .out)) (c .loop-line .rest .now) (c .in-Some .after .now) (c .loop-line .at) (c .loop-line .inv .0) (first .of-all) (c .answer-line .ensures) (c .in-Continue-report .ensures tt),
+      turn (string-bytes (c .loop-line .out)) (c .loop-line .rest .now) (c .in-Some .after .now) (c .loop-line .number) (c .loop-line .inv .0) (first .of-all) (c .answer-line .ensures) (c .in-Continue-report .ensures tt),
       omega (arith, c .loop-line .inv .1, first .shorter),
       omega (arith, c .loop-line .inv .2, first .shorter),
     )

@@ -9,9 +9,9 @@ use Rattle.rehearse.proofs.answer_piece.Given as given
 
 abbrev pub Inv-loop-line : given.InvT-loop-line
 Inv-loop-line l =
-    (string-bytes (l .out) ++ answers (l .at) (lines (l .rest)) ≡ string-bytes (l .entry .out) ++ answers (l .number) (lines (l .script)))
-    × (l .at + length (l .rest) ≤ l .number + length (l .script))
-    × (length (l .rest) ≤ length (l .script))
+    (string-bytes (l .out) ++ answers (l .number) (lines (l .rest)) ≡ string-bytes (l .entry .out) ++ answers (l .entry .number) (lines (l .entry .rest)))
+    × (l .number + length (l .rest) ≤ l .entry .number + length (l .entry .rest))
+    × (length (l .rest) ≤ length (l .entry .rest))
 
 abbrev pub μ-loop-line : given.MeasureT-loop-line
 μ-loop-line l = length (l .rest)

@@ -2,8 +2,8 @@ use Prim.Native.Nat.{_+_, _^_, _<_}
 use lib.ListN.{length}
 use Rattle.rehearse.proofs.rehearse.Given as given
 
-abbrev pub Inv-loop-rest : given.InvT-loop-rest
-Inv-loop-rest l = l .number + length (l .rest) < 2 ^ 64
+abbrev pub Inv-loop-place : given.InvT-loop-place
+Inv-loop-place l = l .place .number + length (l .place .rest .now) < 2 ^ 64
 
-abbrev pub μ-loop-rest : given.MeasureT-loop-rest
-μ-loop-rest l = length (l .rest)
+abbrev pub μ-loop-place : given.MeasureT-loop-place
+μ-loop-place l = length (l .place .rest .now)
