@@ -9,47 +9,37 @@ ghost use Rattle.std.specs.Of.String.{string-bytes};
 ghost use Rattle.std.specs.Vec.{made};
 
 mod answers;
-mod fault;
 
 use answers::answer_line;
 use answers::report;
-use fault::Fault;
-use fault::FaultDisplay;
-use fault::FaultFromAlloc;
-use fault::FaultFromFmt;
-use fault::FaultFromIo;
+use console::Fault;
+use console::FaultFromFmt;
+use console::FaultFromIo;
 use std::fmt;
-use std::io::Read;
 use std::io::Write;
 use voters::Voters;
+
+const BAD_WEIGHTS: &str =
+    "the first line must be 'weights W0 W1 ..': 1 to 64 numbers, each at most 1000000, not all 0";
 
 // Answers go out whenever this many bytes of them are there: they can be many times as long as the script.
 const PIECE: usize = 65_536;
 
 fn main(rt: LibcRuntime) -> Result<(), Fault> {
     let outcome = run(&rt);
-    if let Err(fault) = &outcome {
-        let _ = eprintln!(rt, "rehearse: {fault}");
-    }
-    outcome
+    console::tell(&rt, "rehearse", outcome)
 }
 
 fn run(rt: &LibcRuntime) -> Result<(), Fault> {
-    let script = read_script(rt)?;
+    let script = console::read_all(rt)?;
     let Some((line, rest)) = text::first_line(script.as_slice()) else {
-        return Err(Fault::Weights);
+        return Err(Fault::Input(BAD_WEIGHTS));
     };
     // Nothing that is answered yet asks for the voters.
     let Some(_voters) = Voters::read(line) else {
-        return Err(Fault::Weights);
+        return Err(Fault::Input(BAD_WEIGHTS));
     };
     rehearse(rt, rest)
-}
-
-fn read_script(rt: &LibcRuntime) -> Result<Vec<u8>, Fault> {
-    let mut script = Vec::new(rt.alloc());
-    rt.stdin().read_to_end(&mut script)?;
-    Ok(script)
 }
 
 // How far a script is answered: what is left of it, and the number of the first line of that.

@@ -1,34 +1,22 @@
 // Prints the SHA-256 digest of each message that the lines of standard input describe.
 mod answers;
-mod fault;
 mod hex;
 mod messages;
 
 use answers::answer_piece;
-use fault::Fault;
-use fault::FaultDisplay;
-use fault::FaultFromAlloc;
-use fault::FaultFromIo;
-use std::io::Read;
+use console::Fault;
+use console::FaultFromAlloc;
+use console::FaultFromIo;
 use std::io::Write;
 
 fn main(rt: LibcRuntime) -> Result<(), Fault> {
     let outcome = run(&rt);
-    if let Err(fault) = &outcome {
-        let _ = eprintln!(rt, "vectors: {fault}");
-    }
-    outcome
+    console::tell(&rt, "vectors", outcome)
 }
 
 fn run(rt: &LibcRuntime) -> Result<(), Fault> {
-    let input = read_input(rt)?;
+    let input = console::read_all(rt)?;
     answer_all(rt, input.as_slice())
-}
-
-fn read_input(rt: &LibcRuntime) -> Result<Vec<u8>, Fault> {
-    let mut input = Vec::new(rt.alloc());
-    rt.stdin().read_to_end(&mut input)?;
-    Ok(input)
 }
 
 fn answer_all(rt: &LibcRuntime, input: &[u8]) -> Result<(), Fault> {

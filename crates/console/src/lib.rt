@@ -1,14 +1,16 @@
-// Why the program stops early.
+// What the programs share at their edges: why one stops early, and standard input read whole.
 ghost use mathlib.Core.Path.{_≡_};
-ghost use Rattle.rehearse.specs.declared.fault.Fault.the-variants.{Io, Memory};
+ghost use Rattle.console.specs.declared.Fault.the-variants.{Io, Memory};
 use std::alloc::AllocError;
 use std::fmt;
 use std::io;
+use std::io::Read;
 
+/// Why a program stops early. What it then says on standard error is the fault's text.
 #[derive(Debug, Drop)]
 pub enum Fault {
     Memory,
-    Weights,
+    Input(&'static str),
     Io(io::Error),
 }
 
@@ -16,10 +18,7 @@ pub impl fmt::Display for Fault as FaultDisplay {
     fn fmt<W: fmt::Write>(&self, f: &mut fmt::Formatter<W>) -> fmt::Result {
         match self {
             Fault::Memory => write!(f, "there is not enough memory"),
-            Fault::Weights => write!(
-                f,
-                "the first line must be 'weights W0 W1 ..': 1 to 64 numbers, each at most 1000000, not all 0"
-            ),
+            Fault::Input(what) => write!(f, "{what}"),
             Fault::Io(why) => write!(f, "{why}"),
         }
     }
@@ -47,5 +46,26 @@ pub impl From<io::Error> for Fault as FaultFromIo {
 
     fn from(why: io::Error) -> Fault {
         Fault::Io(why)
+    }
+}
+
+/// All of standard input.
+pub fn read_all(rt: &LibcRuntime) -> Result<Vec<u8>, Fault> {
+    let mut input = Vec::new(rt.alloc());
+    rt.stdin().read_to_end(&mut input)?;
+    Ok(input)
+}
+
+/// Says on standard error why the program stops early, if it does, and hands the outcome on.
+pub fn tell(rt: &LibcRuntime, program: &str, outcome: Result<(), Fault>) -> Result<(), Fault>
+    ensures { λ r. ⌜ r ≡ outcome ⌝ }
+{
+    match outcome {
+        Ok(()) => Ok(()),
+        Err(fault) => {
+            // The program stops anyway, also if there is nobody to hear why.
+            let _ = eprintln!(rt, "{program}: {fault}");
+            Err(fault)
+        }
     }
 }
