@@ -9,7 +9,7 @@ pub(crate) fn choose(x: u32, y: u32, z: u32) -> u32
     z ^ (x & (y ^ z))
 }
 
-// For each bit, the one that at least two of the three have. Written so, a round shares x ^ y with the round before.
+// For each bit, the one that at least two of the three have. Written so, y ^ z is the x ^ y of the round before.
 pub(crate) fn majority(x: u32, y: u32, z: u32) -> u32
     ensures { λ r. ⌜ r ≡ Maj x y z ⌝ }
 {
