@@ -1,0 +1,42 @@
+-- Pages and links of one tree that stand in another.
+-- Assumes nothing.
+use mathlib.Core.Path.{_≡_, refl, sym, ap, subst, _∙_}
+use mathlib.Core.Bool.{Bool, true}
+use Prim.Native.Nat.{ℕ, _<_, _≤_}
+use native.Mathlib.Omega.{arith}
+use Rattle.finality.specs.declared.Link.{Link}
+use Rattle.finality.specs.Tree.{Tree, Under, self, down}
+use Rattle.finality.specs.Links.{FinalBy, SettledBy, first, next, link}
+use Rattle.finality.specs.Growth.{Carried, moved}
+
+module _ (t u : Tree) (page : ℕ → Bool) (f : ℕ → ℕ) (c : Carried t u page f) where
+  -- a page under a page is one
+  pub page-under : {a b : ℕ} → Under t a b → page b ≡ true → page a ≡ true
+  page-under (self e) p = subst (λ n. page n ≡ true) (sym e) p
+  page-under (down {b} i h) p = page-under h (c .lower b p i)
+
+  pub under-carried : {a b : ℕ} → Under t a b → page b ≡ true → Under u (f a) (f b)
+  under-carried (self e) p = self (ap f e)
+  under-carried {a} (down {b} i h) p =
+      down (c .later b p i) (subst (Under u (f a)) (sym (c .parent b p i)) (under-carried h (c .lower b p i)))
+
+  module _ (L M : Link → Type 0) (sent : (k : Link) → L k → (page (k .target) ≡ true) × M (moved f k)) where
+    pub settled-carried : {a : ℕ} → SettledBy t L a → SettledBy u M (f a)
+    settled-carried (first e) = first (ap f e ∙ c .first)
+    settled-carried (next {b} a s h r l) =
+        let p : page b ≡ true = sent (link a b) l .0 in
+        let q : page a ≡ true = page-under h p in
+        let ha = c .height a q in
+        let hb = c .height b p in
+        next (f a) (settled-carried s) (under-carried h p) (omega arith) (sent (link a b) l .1)
+
+    pub final-carried : {a : ℕ} → FinalBy t L a → FinalBy u M (f a)
+    final-carried {a} d =
+        let p : page (d .top) ≡ true = sent (link a (d .top)) (d .linked) .0 in
+        record {
+          settled = settled-carried (d .settled);
+          top = f (d .top);
+          later = c .later (d .top) p (d .later);
+          on = c .parent (d .top) p (d .later) ∙ ap f (d .on);
+          linked = sent (link a (d .top)) (d .linked) .1
+        }

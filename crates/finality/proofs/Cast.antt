@@ -1,0 +1,69 @@
+-- From a test on votes to the vote itself.
+-- Assumes nothing.
+use mathlib.Core.Path.{_≡_, refl, sym, ap, _∙_}
+use mathlib.Core.Logic.{_⊎_, inl, inr, ⊎-elim}
+use mathlib.Core.Bool.{Bool, true, false, cond}
+use mathlib.Core.List.{List, [], _∷_, List·Memᴰ·head, List·Memᴰ·tail}
+use Prim.Native.Nat.{ℕ, zero, suc, _+_, _*_, _≤_}
+use native.Mathlib.Omega.{arith}
+use lib.Dec.{eqb}
+use Rattle.std.proofs.shelf.Tests.{and-from, and-parts, eq-eqb, eqb-true, false≢true, leb-true, or-cases, or-left, or-right}
+use Rattle.finality.specs.declared.Link.{Link}
+use Rattle.finality.specs.declared.Vote.{Vote}
+use Rattle.finality.specs.Votes.{Electorate, _∈_, isVote, linked, total, voted, weighed, weightIn}
+use Rattle.finality.specs.Growth.{moved, movedVote}
+use Rattle.finality.specs.Conduct.{vote}
+use Rattle.finality.proofs.Weights.{quorum-within}
+
+-- a vote that passes the test of v's vote for k is that vote
+is-vote : (k : Link) (v : ℕ) (x : Vote) → isVote k v x ≡ true → vote v k ≡ x
+is-vote k v x e =
+    let p = and-parts _ (eqb (x .link .target) (k .target)) e in
+    let q = and-parts (eqb (x .voter) v) (eqb (x .link .source) (k .source)) (p .0) in
+    let who = sym (eqb-true (x .voter) v (q .0)) in
+    let low = sym (eqb-true (x .link .source) (k .source) (q .1)) in
+    let high = sym (eqb-true (x .link .target) (k .target) (p .1)) in
+    λ i. record { voter = who i; link = record { source = low i; target = high i } }
+
+pub voted-cast : (xs : List Vote) (k : Link) (v : ℕ) → voted xs k v ≡ true → vote v k ∈ xs
+unfolding voted
+voted-cast [] k v e = absurd (false≢true e)
+voted-cast (x ∷ xs) k v e =
+    ⊎-elim (λ h. List·Memᴰ·head (is-vote k v x h)) (λ h. List·Memᴰ·tail (voted-cast xs k v h)) (or-cases (isVote k v x) (voted xs k v) e)
+
+own-vote : (k : Link) (v : ℕ) (x : Vote) → vote v k ≡ x → isVote k v x ≡ true
+own-vote k v x e =
+    and-from _ (eqb (x .link .target) (k .target))
+    (and-from (eqb (x .voter) v) (eqb (x .link .source) (k .source)) (eq-eqb (x .voter) v (ap (λ y. y .voter) (sym e))) (eq-eqb (x .link .source) (k .source) (ap (λ y. y .link .source) (sym e))))
+    (eq-eqb (x .link .target) (k .target) (ap (λ y. y .link .target) (sym e)))
+
+pub cast-voted : (k : Link) (v : ℕ) {xs : List Vote} → vote v k ∈ xs → voted xs k v ≡ true
+unfolding voted
+cast-voted k v (List·Memᴰ·head {x} {xs} e) = or-left (isVote k v x) (voted xs k v) (own-vote k v x e)
+cast-voted k v (List·Memᴰ·tail {x} {xs} m) = or-right (isVote k v x) (voted xs k v) (cast-voted k v m)
+
+-- a set of voters that weighs anything has one in it
+someone : (n : ℕ) (w : ℕ → ℕ) (p : ℕ → Bool) → 1 ≤ weighed n w p → (v : ℕ) × (p v ≡ true)
+unfolding weighed
+someone zero w p h = absurd (omega arith)
+someone (suc n) w p h = by-test (p n) refl h (someone n w p)
+  where
+    by-test : (b : Bool) → p n ≡ b → 1 ≤ cond b (w n) 0 + weighed n w p → (1 ≤ weighed n w p → (v : ℕ) × (p v ≡ true)) →
+        (v : ℕ) × (p v ≡ true)
+    by-test true e i rest = (n, e)
+    by-test false e i rest = rest (omega arith)
+
+-- a link that is made has a vote for it
+pub linked-cast : (vs : Electorate) (xs : List Vote) (k : Link) → 1 ≤ total vs → linked vs xs k ≡ true →
+    (v : ℕ) × (vote v k ∈ xs)
+linked-cast vs xs k some e =
+    let h = leb-true (2 * total vs) (3 * weightIn vs (voted xs k)) e in
+    let one = someone (vs .count) (vs .weight) (voted xs k) (omega arith) in
+    (one .0, voted-cast xs k (one .0) (one .1))
+
+-- votes that stand among others, under other numbers of the pages, make the links that they made
+pub linked-moved : (f : ℕ → ℕ) (vs : Electorate) (xs ys : List Vote) → ((x : Vote) → x ∈ xs → movedVote f x ∈ ys) →
+    (k : Link) → linked vs xs k ≡ true → linked vs ys (moved f k) ≡ true
+linked-moved f vs xs ys sent k e =
+    quorum-within vs (voted xs k) (voted ys (moved f k))
+    (λ v i h. cast-voted (moved f k) v (sent (vote v k) (voted-cast xs k v h))) e

@@ -1,0 +1,152 @@
+-- Voters who keep the rules and are two thirds can go on: a vote of each, above all that it signed, from a settled page.
+-- Assumes nothing.
+use mathlib.Core.Path.{_≡_, refl, sym, ap, subst, _∙_}
+use mathlib.Core.Logic.{_⊎_, inl, inr, ⊎-elim}
+use mathlib.Core.Bool.{Bool, true, false, cond, _&&_, _||_}
+use mathlib.Core.List.{List, [], _∷_, _++_, List·Memᴰ·append-cases, List·Memᴰ·cases-cons, List·Memᴰ·eq-of-singleton, List·Memᴰ·head, List·Memᴰ·not-nil, List·Memᴰ·tail, Memᴰ·append-left, Memᴰ·append-right}
+use Prim.Native.Nat.{ℕ, zero, suc, _+_, _<_, _≤_}
+use native.Mathlib.Omega.{arith}
+use lib.Dec.{eqb, leb, ltb}
+use Rattle.std.proofs.shelf.Tests.{and-from, and-right, cases-eq, false≢true, le-leb, lt-ltb, or-left, or-right}
+use Rattle.finality.specs.declared.Link.{Link}
+use Rattle.finality.specs.declared.Vote.{Vote}
+use Rattle.finality.specs.Tree.{Grown, Tree, Under}
+use Rattle.finality.specs.Links.{clash, link, next}
+use Rattle.finality.specs.Votes.{Electorate, Settled, _∈_, breach, linked, voted}
+use Rattle.finality.specs.Guard.{Guard, after, bare, guardOf, lets}
+use Rattle.finality.specs.Conduct.{Clean, Keepers, Way, also, ballots, cast, mayVote, vote}
+use Rattle.finality.proofs.Cast.{cast-voted}
+use Rattle.finality.proofs.Growing.{more-votes}
+use Rattle.finality.proofs.Keeping.{Before, after-free, before-free, clear, same-free}
+use Rattle.finality.proofs.Weights.{quorum-within}
+
+-- each of the ballots is a vote for the link by one of the voters
+ballots-of : (n : ℕ) (h : ℕ → Bool) (k : Link) (x : Vote) → x ∈ ballots n h k → (h (x .voter) ≡ true) × (x ≡ vote (x .voter) k)
+unfolding ballots
+ballots-of zero h k x m = absurd (List·Memᴰ·not-nil m)
+ballots-of (suc n) h k x m = by-test (h n) refl m (ballots-of n h k x)
+  where
+    by-test : (b : Bool) → h n ≡ b → x ∈ cond b (vote n k ∷ ballots n h k) (ballots n h k) →
+        (x ∈ ballots n h k → (h (x .voter) ≡ true) × (x ≡ vote (x .voter) k)) → (h (x .voter) ≡ true) × (x ≡ vote (x .voter) k)
+    by-test true t m rest =
+        ⊎-elim (λ e. (ap (λ y. h (y .voter)) e ∙ t, e ∙ sym (ap (λ y. vote (y .voter) k) e))) rest (List·Memᴰ·cases-cons m)
+    by-test false t m rest = rest m
+
+in-ballots : (n : ℕ) (h : ℕ → Bool) (k : Link) (v : ℕ) → v < n → h v ≡ true → vote v k ∈ ballots n h k
+unfolding ballots
+in-ballots zero h k v i e = absurd (omega arith)
+in-ballots (suc n) h k v i e =
+    ⊎-elim (λ f. here (h n) (subst (λ w. h w ≡ true) f e) f) (λ d. before (h n) (in-ballots n h k v (omega arith) e)) (cases-eq v n)
+  where
+    here : (b : Bool) → b ≡ true → v ≡ n → vote v k ∈ cond b (vote n k ∷ ballots n h k) (ballots n h k)
+    here true g f = List·Memᴰ·head (ap (λ w. vote w k) f)
+    here false g f = absurd (false≢true g)
+
+    before : (b : Bool) → vote v k ∈ ballots n h k → vote v k ∈ cond b (vote n k ∷ ballots n h k) (ballots n h k)
+    before true m = List·Memᴰ·tail m
+    before false m = m
+
+module _ (t : Tree) where
+  -- the link k comes after all the votes
+  abbrev Above : List Vote → Link → Type 0
+  Above xs k = (x : Vote) → x ∈ xs → Before t (x .link) k
+
+  -- a guard that lets through whatever is as high
+  abbrev Ready : Guard → Link → Type 0
+  Ready g k = (g .fresh ≡ true) ⊎ ((g .source ≤ t .height (k .source)) × (g .target < t .height (k .target)))
+
+  ready-after : (xs : List Vote) (g : Guard) (k : Link) → Ready g k → Above xs k → Ready (guardOf t g xs) k
+  unfolding guardOf
+  ready-after [] g k r h = r
+  ready-after (x ∷ xs) g k r h =
+      let b = h x (List·Memᴰ·head refl) in
+      ready-after xs (after t x) k (inr (b .low, b .high)) (λ y m. h y (List·Memᴰ·tail m))
+
+  ready-lets : (g : Guard) (k : Link) → Ready g k → t .height (k .source) < t .height (k .target) →
+      lets g (t .height (k .source)) (t .height (k .target)) ≡ true
+  ready-lets g k r up =
+      and-from _ _ (lt-ltb (t .height (k .source)) (t .height (k .target)) up) (⊎-elim (or-left (g .fresh) _)
+      (λ p. or-right (g .fresh) _ (and-from _ _ (le-leb (g .source) (t .height (k .source)) (p .0)) (lt-ltb (g .target) (t .height (k .target)) (p .1)))) r)
+
+  above-lets : (signed : ℕ → List Vote) (k : Link) (v : ℕ) → Above (signed v) k → t .height (k .source) < t .height (k .target) →
+      mayVote t signed k v ≡ true
+  above-lets signed k v h up = ready-lets (guardOf t bare (signed v)) k (ready-after (signed v) bare k (inl refl) h) up
+
+  -- a vote above clean ones leaves them clean
+  clean-also : (xs : List Vote) (v : ℕ) (k : Link) → Clean t xs → Above xs k → Clean t (xs ++ vote v k ∷ [])
+  clean-also xs v k clean h x y m n = by-place (List·Memᴰ·append-cases xs m) (List·Memᴰ·append-cases xs n)
+    where
+      new : {z : Vote} → z ∈ (vote v k ∷ []) → z .link ≡ k
+      new m = ap (λ z. z .link) (List·Memᴰ·eq-of-singleton m)
+
+      by-place : (x ∈ xs) ⊎ (x ∈ (vote v k ∷ [])) → (y ∈ xs) ⊎ (y ∈ (vote v k ∷ [])) → breach t x y ≡ false
+      by-place (inl p) (inl q) = clean x y p q
+      by-place (inl p) (inr q) = clear t x y (before-free t (x .link) (y .link) (subst (Before t (x .link)) (sym (new q)) (h x p)))
+      by-place (inr p) (inl q) = clear t x y (after-free t (x .link) (y .link) (subst (Before t (y .link)) (sym (new p)) (h y q)))
+      by-place (inr p) (inr q) = clear t x y (same-free t (x .link) (y .link) (new p ∙ sym (new q)))
+
+  module _ (vs : Electorate) (xs : List Vote) (h : ℕ → Bool) (signed : ℕ → List Vote) (c : Keepers t vs xs h signed) (k : Link) where
+    more : (a : ℕ) → Settled t vs xs a → Settled t vs (cast vs h k xs) a
+    more a = more-votes t vs xs (cast vs h k xs) (λ x m. Memᴰ·append-right (ballots (vs .count) h k) m) a .0
+
+    cast-links : linked vs (cast vs h k xs) k ≡ true
+    cast-links =
+        quorum-within vs h (voted (cast vs h k xs) k)
+        (λ v i e. cast-voted k v (Memᴰ·append-left xs (in-ballots (vs .count) h k v i e))) (c .most)
+
+    -- a vote of each from a settled page, above all that it signed
+    cast-keeps : Settled t vs xs (k .source) → ((v : ℕ) → h v ≡ true → Above (signed v) k) → Keepers t vs (cast vs h k xs) h (also signed k)
+    cast-keeps s high =
+        record { most = c .most; all = all; from = from; clean = λ v e. clean-also (signed v) v k (c .clean v e) (high v e) }
+      where
+        all : (x : Vote) → x ∈ cast vs h k xs → h (x .voter) ≡ true → x ∈ also signed k (x .voter)
+        all x m e =
+            ⊎-elim (λ n. Memᴰ·append-right (signed (x .voter)) (List·Memᴰ·head (ballots-of (vs .count) h k x n .1)))
+            (λ n. Memᴰ·append-left (vote (x .voter) k ∷ []) (c .all x n e)) (List·Memᴰ·append-cases (ballots (vs .count) h k) m)
+
+        from : (v : ℕ) → h v ≡ true → (x : Vote) → x ∈ also signed k v → Settled t vs (cast vs h k xs) (x .link .source)
+        from v e x m =
+            ⊎-elim (λ n. more (x .link .source) (c .from v e x n))
+            (λ n. subst (Settled t vs (cast vs h k xs)) (sym (ap (λ y. y .link .source) (List·Memᴰ·eq-of-singleton n))) (more (k .source) s))
+            (List·Memᴰ·append-cases (signed v) m)
+
+pub never-cornered : (t : Tree) → Grown t → (vs : Electorate) (xs : List Vote) (h : ℕ → Bool) (signed : ℕ → List Vote) →
+    Keepers t vs xs h signed → (a : ℕ) → Settled t vs xs a → ((b : ℕ) → Settled t vs xs b → t .height b ≤ t .height a) → (c d : ℕ) →
+    Under t a c → t .height a < t .height c → 1 ≤ d → t .parent d ≡ c →
+    ((v : ℕ) → h v ≡ true → (x : Vote) → x ∈ signed v → t .height (x .link .target) < t .height c) → Way t vs xs h signed a c d
+never-cornered t g vs xs h signed keepers a s top c d on up i right bound =
+    record {
+      theirs = λ k x m. let p = ballots-of (vs .count) h k x m in (p .0, ap (λ y. y .link) (p .1));
+      first = λ v e. above-lets t signed (link a c) v (high v e) up;
+      second = λ v e. above-lets t (also signed (link a c)) (link c d) v (higher v e) tall;
+      keep = cast-keeps t vs (cast vs h (link a c) xs) h (also signed (link a c)) kept (link c d) settled higher;
+      final =
+        record {
+          settled = more t vs (cast vs h (link a c) xs) h (also signed (link a c)) kept (link c d) c settled;
+          top = d;
+          later = i;
+          on = right;
+          linked = cast-links t vs (cast vs h (link a c) xs) h (also signed (link a c)) kept (link c d)
+        }
+    }
+  where
+    tall : t .height c < t .height d
+    tall = omega (arith, g .up d i, ap (t .height) right)
+
+    high : (v : ℕ) → h v ≡ true → Above t (signed v) (link a c)
+    high v e x m = record { low = top (x .link .source) (keepers .from v e x m); high = bound v e x m }
+
+    higher : (v : ℕ) → h v ≡ true → Above t (also signed (link a c) v) (link c d)
+    higher v e x m = ⊎-elim old new (List·Memᴰ·append-cases (signed v) m)
+      where
+        old : x ∈ signed v → Before t (x .link) (link c d)
+        old n = let b = high v e x n in record { low = omega arith; high = omega (arith, tall) }
+
+        new : x ∈ (vote v (link a c) ∷ []) → Before t (x .link) (link c d)
+        new n = subst (λ y. Before t (y .link) (link c d)) (sym (List·Memᴰ·eq-of-singleton n)) (record { low = omega arith; high = tall })
+
+    kept : Keepers t vs (cast vs h (link a c) xs) h (also signed (link a c))
+    kept = cast-keeps t vs xs h signed keepers (link a c) s high
+
+    settled : Settled t vs (cast vs h (link a c) xs) c
+    settled = next a (more t vs xs h signed keepers (link a c) a s) on up (cast-links t vs xs h signed keepers (link a c))

@@ -1,0 +1,9 @@
+pub mod Carries
+pub mod Weights
+pub mod Trees
+pub mod Clashes
+pub mod Cast
+pub mod Shown
+pub mod Growing
+pub mod Keeping
+pub mod Cornered
