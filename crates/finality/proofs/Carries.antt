@@ -2,12 +2,14 @@
 -- Assumes nothing.
 use mathlib.Core.Path.{_≡_, refl, sym, ap, subst, _∙_}
 use mathlib.Core.Bool.{Bool, true}
-use Prim.Native.Nat.{ℕ, _<_, _≤_}
+use Prim.Native.Nat.{ℕ, _<_}
 use native.Mathlib.Omega.{arith}
+use lib.Dec.{ltb}
+use Rattle.std.proofs.shelf.Tests.{lt-ltb, ltb-true}
 use Rattle.finality.specs.declared.Link.{Link}
 use Rattle.finality.specs.Tree.{Tree, Under, self, down}
-use Rattle.finality.specs.Links.{FinalBy, SettledBy, first, next, link}
-use Rattle.finality.specs.Growth.{Carried, moved}
+use Rattle.finality.specs.Links.{Climbs, FinalBy, SettledBy, first, next, link}
+use Rattle.finality.specs.Growth.{Carried, Extends, moved}
 
 module _ (t u : Tree) (page : ℕ → Bool) (f : ℕ → ℕ) (c : Carried t u page f) where
   -- a page under a page is one
@@ -38,5 +40,32 @@ module _ (t u : Tree) (page : ℕ → Bool) (f : ℕ → ℕ) (c : Carried t u p
           top = f (d .top);
           later = c .later (d .top) p (d .later);
           on = c .parent (d .top) p (d .later) ∙ ap f (d .on);
-          linked = sent (link a (d .top)) (d .linked) .1
+          linked = sent (link a (d .top)) (d .linked) .1;
         }
+
+-- what is settled stays so with more links up
+pub settled-more :
+    (t : Tree) (L M : Link → Type 0) → ((k : Link) → Climbs t k → L k → M k) → {a : ℕ} → SettledBy t L a → SettledBy t M a
+settled-more t L M more (first e) = first e
+settled-more t L M more (next {b} a s h r l) =
+    next a (settled-more t L M more s) h r (more (link a b) (record { under = h; higher = r }) l)
+
+-- trees that agree on the first n pages, of which each lies on one of them
+module _ (t u : Tree) (n : ℕ) (e : Extends t u n) where
+  pub extends-carried : Carried t u (λ b. ltb b n) (λ b. b)
+  extends-carried =
+      record {
+        first = refl;
+        lower = λ b p i. lt-ltb (t .parent b) n (e .lower b i (ltb-true b n p));
+        later = λ b p i. i;
+        parent = λ b p i. e .parent b i (ltb-true b n p);
+        height = λ b p. e .height b (ltb-true b n p);
+      }
+
+  pub extends-back : Extends u t n
+  extends-back =
+      record {
+        lower = λ b i h. subst (λ x. x < n) (sym (e .parent b i h)) (e .lower b i h);
+        parent = λ b i h. sym (e .parent b i h);
+        height = λ b h. sym (e .height b h);
+      }

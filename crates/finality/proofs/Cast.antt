@@ -1,7 +1,7 @@
 -- From a test on votes to the vote itself.
 -- Assumes nothing.
-use mathlib.Core.Path.{_≡_, refl, sym, ap, _∙_}
-use mathlib.Core.Logic.{_⊎_, inl, inr, ⊎-elim}
+use mathlib.Core.Path.{_≡_, refl, sym, ap}
+use mathlib.Core.Logic.{⊎-elim}
 use mathlib.Core.Bool.{Bool, true, false, cond}
 use mathlib.Core.List.{List, [], _∷_, List·Memᴰ·head, List·Memᴰ·tail}
 use Prim.Native.Nat.{ℕ, zero, suc, _+_, _*_, _≤_}
@@ -10,9 +10,8 @@ use lib.Dec.{eqb}
 use Rattle.std.proofs.shelf.Tests.{and-from, and-parts, eq-eqb, eqb-true, false≢true, leb-true, or-cases, or-left, or-right}
 use Rattle.finality.specs.declared.Link.{Link}
 use Rattle.finality.specs.declared.Vote.{Vote}
-use Rattle.finality.specs.Votes.{Electorate, _∈_, isVote, linked, total, voted, weighed, weightIn}
+use Rattle.finality.specs.Votes.{Electorate, _∈_, isVote, linked, total, vote, voted, weighed, weightIn}
 use Rattle.finality.specs.Growth.{moved, movedVote}
-use Rattle.finality.specs.Conduct.{vote}
 use Rattle.finality.proofs.Weights.{quorum-within}
 
 -- a vote that passes the test of v's vote for k is that vote
@@ -29,13 +28,15 @@ pub voted-cast : (xs : List Vote) (k : Link) (v : ℕ) → voted xs k v ≡ true
 unfolding voted
 voted-cast [] k v e = absurd (false≢true e)
 voted-cast (x ∷ xs) k v e =
-    ⊎-elim (λ h. List·Memᴰ·head (is-vote k v x h)) (λ h. List·Memᴰ·tail (voted-cast xs k v h)) (or-cases (isVote k v x) (voted xs k v) e)
+    ⊎-elim (λ h. List·Memᴰ·head (is-vote k v x h)) (λ h. List·Memᴰ·tail (voted-cast xs k v h))
+    (or-cases (isVote k v x) (voted xs k v) e)
 
 own-vote : (k : Link) (v : ℕ) (x : Vote) → vote v k ≡ x → isVote k v x ≡ true
 own-vote k v x e =
-    and-from _ (eqb (x .link .target) (k .target))
-    (and-from (eqb (x .voter) v) (eqb (x .link .source) (k .source)) (eq-eqb (x .voter) v (ap (λ y. y .voter) (sym e))) (eq-eqb (x .link .source) (k .source) (ap (λ y. y .link .source) (sym e))))
-    (eq-eqb (x .link .target) (k .target) (ap (λ y. y .link .target) (sym e)))
+    let who = eq-eqb (x .voter) v (ap (λ y. y .voter) (sym e)) in
+    let low = eq-eqb (x .link .source) (k .source) (ap (λ y. y .link .source) (sym e)) in
+    let high = eq-eqb (x .link .target) (k .target) (ap (λ y. y .link .target) (sym e)) in
+    and-from _ (eqb (x .link .target) (k .target)) (and-from (eqb (x .voter) v) _ who low) high
 
 pub cast-voted : (k : Link) (v : ℕ) {xs : List Vote} → vote v k ∈ xs → voted xs k v ≡ true
 unfolding voted

@@ -2,22 +2,24 @@
 -- Assumes nothing.
 use mathlib.Core.Path.{_≡_, refl, sym, ap, subst, _∙_}
 use mathlib.Core.Logic.{_⊎_, inl, inr, ⊎-elim}
-use mathlib.Core.Bool.{Bool, true, false, cond, _&&_, _||_}
-use mathlib.Core.List.{List, [], _∷_, _++_, List·Memᴰ·append-cases, List·Memᴰ·cases-cons, List·Memᴰ·eq-of-singleton, List·Memᴰ·head, List·Memᴰ·not-nil, List·Memᴰ·tail, Memᴰ·append-left, Memᴰ·append-right}
-use Prim.Native.Nat.{ℕ, zero, suc, _+_, _<_, _≤_}
+use mathlib.Core.Bool.{Bool, true, false, cond, _&&_}
+use mathlib.Core.List.{List, [], _∷_, _++_, List·Memᴰ·append-cases, List·Memᴰ·cases-cons, List·Memᴰ·eq-of-singleton}
+use mathlib.Core.List.{List·Memᴰ·head, List·Memᴰ·not-nil, List·Memᴰ·tail, Memᴰ·append-left, Memᴰ·append-right}
+use Prim.Native.Nat.{ℕ, zero, suc, _<_, _≤_}
 use native.Mathlib.Omega.{arith}
-use lib.Dec.{eqb, leb, ltb}
-use Rattle.std.proofs.shelf.Tests.{and-from, and-right, cases-eq, false≢true, le-leb, lt-ltb, or-left, or-right}
+use lib.Dec.{leb, ltb}
+use Rattle.std.proofs.shelf.Tests.{and-from, cases-eq, false≢true, le-leb, lt-ltb, or-left, or-right}
 use Rattle.finality.specs.declared.Link.{Link}
 use Rattle.finality.specs.declared.Vote.{Vote}
-use Rattle.finality.specs.Tree.{Grown, Tree, Under}
-use Rattle.finality.specs.Links.{clash, link, next}
-use Rattle.finality.specs.Votes.{Electorate, Settled, _∈_, breach, linked, voted}
+use Rattle.finality.specs.Tree.{Tree}
+use Rattle.finality.specs.Links.{link, next}
+use Rattle.finality.specs.Votes.{Electorate, Settled, _∈_, breach, linked, vote, voted}
 use Rattle.finality.specs.Guard.{Guard, after, bare, guardOf, lets}
-use Rattle.finality.specs.Conduct.{Clean, Keepers, Way, also, ballots, cast, mayVote, vote}
+use Rattle.finality.specs.Conduct.{Clean, Keepers, NeverCornered, also, ballots, cast, mayVote}
 use Rattle.finality.proofs.Cast.{cast-voted}
 use Rattle.finality.proofs.Growing.{more-votes}
-use Rattle.finality.proofs.Keeping.{Before, after-free, before-free, clear, same-free}
+use Rattle.finality.proofs.Keeping.{clear}
+use Rattle.finality.proofs.Rules.{Before, after-free, before-free, same-free}
 use Rattle.finality.proofs.Weights.{quorum-within}
 
 -- each of the ballots is a vote for the link by one of the voters
@@ -65,8 +67,13 @@ module _ (t : Tree) where
   ready-lets : (g : Guard) (k : Link) → Ready g k → t .height (k .source) < t .height (k .target) →
       lets g (t .height (k .source)) (t .height (k .target)) ≡ true
   ready-lets g k r up =
-      and-from _ _ (lt-ltb (t .height (k .source)) (t .height (k .target)) up) (⊎-elim (or-left (g .fresh) _)
-      (λ p. or-right (g .fresh) _ (and-from _ _ (le-leb (g .source) (t .height (k .source)) (p .0)) (lt-ltb (g .target) (t .height (k .target)) (p .1)))) r)
+      and-from _ _ (lt-ltb (t .height (k .source)) (t .height (k .target)) up)
+      (⊎-elim (or-left (g .fresh) _) (λ p. or-right (g .fresh) _ (higher p)) r)
+    where
+      higher : (g .source ≤ t .height (k .source)) × (g .target < t .height (k .target)) →
+          (leb (g .source) (t .height (k .source)) && ltb (g .target) (t .height (k .target))) ≡ true
+      higher p =
+          and-from _ _ (le-leb (g .source) (t .height (k .source)) (p .0)) (lt-ltb (g .target) (t .height (k .target)) (p .1))
 
   above-lets : (signed : ℕ → List Vote) (k : Link) (v : ℕ) → Above (signed v) k → t .height (k .source) < t .height (k .target) →
       mayVote t signed k v ≡ true
@@ -81,8 +88,10 @@ module _ (t : Tree) where
 
       by-place : (x ∈ xs) ⊎ (x ∈ (vote v k ∷ [])) → (y ∈ xs) ⊎ (y ∈ (vote v k ∷ [])) → breach t x y ≡ false
       by-place (inl p) (inl q) = clean x y p q
-      by-place (inl p) (inr q) = clear t x y (before-free t (x .link) (y .link) (subst (Before t (x .link)) (sym (new q)) (h x p)))
-      by-place (inr p) (inl q) = clear t x y (after-free t (x .link) (y .link) (subst (Before t (y .link)) (sym (new p)) (h y q)))
+      by-place (inl p) (inr q) =
+          clear t x y (before-free t (x .link) (y .link) (subst (Before t (x .link)) (sym (new q)) (h x p)))
+      by-place (inr p) (inl q) =
+          clear t x y (after-free t (x .link) (y .link) (subst (Before t (y .link)) (sym (new p)) (h y q)))
       by-place (inr p) (inr q) = clear t x y (same-free t (x .link) (y .link) (new p ∙ sym (new q)))
 
   module _ (vs : Electorate) (xs : List Vote) (h : ℕ → Bool) (signed : ℕ → List Vote) (c : Keepers t vs xs h signed) (k : Link) where
@@ -95,7 +104,8 @@ module _ (t : Tree) where
         (λ v i e. cast-voted k v (Memᴰ·append-left xs (in-ballots (vs .count) h k v i e))) (c .most)
 
     -- a vote of each from a settled page, above all that it signed
-    cast-keeps : Settled t vs xs (k .source) → ((v : ℕ) → h v ≡ true → Above (signed v) k) → Keepers t vs (cast vs h k xs) h (also signed k)
+    cast-keeps : Settled t vs xs (k .source) → ((v : ℕ) → h v ≡ true → Above (signed v) k) →
+        Keepers t vs (cast vs h k xs) h (also signed k)
     cast-keeps s high =
         record { most = c .most; all = all; from = from; clean = λ v e. clean-also (signed v) v k (c .clean v e) (high v e) }
       where
@@ -106,14 +116,14 @@ module _ (t : Tree) where
 
         from : (v : ℕ) → h v ≡ true → (x : Vote) → x ∈ also signed k v → Settled t vs (cast vs h k xs) (x .link .source)
         from v e x m =
-            ⊎-elim (λ n. more (x .link .source) (c .from v e x n))
-            (λ n. subst (Settled t vs (cast vs h k xs)) (sym (ap (λ y. y .link .source) (List·Memᴰ·eq-of-singleton n))) (more (k .source) s))
-            (List·Memᴰ·append-cases (signed v) m)
+            ⊎-elim (λ n. more (x .link .source) (c .from v e x n)) new (List·Memᴰ·append-cases (signed v) m)
+          where
+            new : x ∈ (vote v k ∷ []) → Settled t vs (cast vs h k xs) (x .link .source)
+            new n =
+                let q = ap (λ y. y .link .source) (List·Memᴰ·eq-of-singleton n) in
+                subst (Settled t vs (cast vs h k xs)) (sym q) (more (k .source) s)
 
-pub never-cornered : (t : Tree) → Grown t → (vs : Electorate) (xs : List Vote) (h : ℕ → Bool) (signed : ℕ → List Vote) →
-    Keepers t vs xs h signed → (a : ℕ) → Settled t vs xs a → ((b : ℕ) → Settled t vs xs b → t .height b ≤ t .height a) → (c d : ℕ) →
-    Under t a c → t .height a < t .height c → 1 ≤ d → t .parent d ≡ c →
-    ((v : ℕ) → h v ≡ true → (x : Vote) → x ∈ signed v → t .height (x .link .target) < t .height c) → Way t vs xs h signed a c d
+pub never-cornered : NeverCornered
 never-cornered t g vs xs h signed keepers a s top c d on up i right bound =
     record {
       theirs = λ k x m. let p = ballots-of (vs .count) h k x m in (p .0, ap (λ y. y .link) (p .1));
@@ -121,13 +131,13 @@ never-cornered t g vs xs h signed keepers a s top c d on up i right bound =
       second = λ v e. above-lets t (also signed (link a c)) (link c d) v (higher v e) tall;
       keep = cast-keeps t vs (cast vs h (link a c) xs) h (also signed (link a c)) kept (link c d) settled higher;
       final =
-        record {
-          settled = more t vs (cast vs h (link a c) xs) h (also signed (link a c)) kept (link c d) c settled;
-          top = d;
-          later = i;
-          on = right;
-          linked = cast-links t vs (cast vs h (link a c) xs) h (also signed (link a c)) kept (link c d)
-        }
+          record {
+            settled = more t vs (cast vs h (link a c) xs) h (also signed (link a c)) kept (link c d) c settled;
+            top = d;
+            later = i;
+            on = right;
+            linked = cast-links t vs (cast vs h (link a c) xs) h (also signed (link a c)) kept (link c d);
+          };
     }
   where
     tall : t .height c < t .height d
@@ -143,7 +153,9 @@ never-cornered t g vs xs h signed keepers a s top c d on up i right bound =
         old n = let b = high v e x n in record { low = omega arith; high = omega (arith, tall) }
 
         new : x ∈ (vote v (link a c) ∷ []) → Before t (x .link) (link c d)
-        new n = subst (λ y. Before t (y .link) (link c d)) (sym (List·Memᴰ·eq-of-singleton n)) (record { low = omega arith; high = tall })
+        new n =
+            let e = List·Memᴰ·eq-of-singleton n in
+            subst (λ y. Before t (y .link) (link c d)) (sym e) (record { low = omega arith; high = tall })
 
     kept : Keepers t vs (cast vs h (link a c) xs) h (also signed (link a c))
     kept = cast-keeps t vs xs h signed keepers (link a c) s high

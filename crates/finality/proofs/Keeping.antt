@@ -2,70 +2,49 @@
 -- Assumes nothing.
 use mathlib.Core.Path.{_≡_, refl, sym, ap, subst, _∙_}
 use mathlib.Core.Logic.{_⊎_, inl, inr, ⊎-elim}
-use mathlib.Core.Bool.{Bool, true, false, _&&_}
+use mathlib.Core.Bool.{true, false}
 use mathlib.Core.List.{List, [], _∷_, List·Memᴰ·cases-cons, List·Memᴰ·head, List·Memᴰ·not-nil, List·Memᴰ·tail}
-use Prim.Native.Nat.{ℕ, _<_, _≤_}
+use Prim.Native.Nat.{ℕ}
 use native.Mathlib.Omega.{arith}
 use lib.Dec.{eqb, leb, ltb}
-use Rattle.std.proofs.shelf.Tests.{and-from, and-left, and-parts, and-right, both-ways, cases-bool, eqb-true, false≢true, leb-true, ltb-true, ne-eqb, or-from}
-use Rattle.finality.specs.declared.Link.{Link}
+use Rattle.std.proofs.shelf.Tests.{and-from, and-left, and-parts, and-right, both-ways, cases-bool, eqb-true, leb-true}
+use Rattle.std.proofs.shelf.Tests.{ltb-true, ne-eqb, or-from}
 use Rattle.finality.specs.declared.Proof.{Proof}
 use Rattle.finality.specs.declared.Vote.{Vote}
 use Rattle.finality.specs.Tree.{Tree}
 use Rattle.finality.specs.Links.{clash}
-use Rattle.finality.specs.Votes.{AllHold, Holds, _∈_, breach, named}
+use Rattle.finality.specs.Votes.{AllHold, _∈_, breach, named}
 use Rattle.finality.specs.Guard.{after, bare, follows, lets, rising, risingFrom, signs, sourceHeight, targetHeight}
 use Rattle.finality.specs.Conduct.{Clean}
-use Rattle.finality.proofs.Trees.{Around, Twice, clash-to}
+use Rattle.finality.proofs.Rules.{Before, after-free, before-free, same-free}
 
 module _ (t : Tree) where
-  -- the link k has a source that isn't higher, and a target that is lower, than l's
-  pub record Before (k l : Link) : Type 0 where
-    pub low : t .height (k .source) ≤ t .height (l .source)
-    pub high : t .height (k .target) < t .height (l .target)
-
-  -- two links don't clash if neither rule fits
-  unclashed : (k l : Link) → (Twice t k l → ⊥) → (Around t k l → ⊥) → (Around t l k → ⊥) → clash t k l ≡ false
-  unclashed k l level outer inner =
-      ⊎-elim (λ e. absurd (⊎-elim level (⊎-elim outer inner) (clash-to t k l e))) (λ e. e) (cases-bool (clash t k l))
-
-  pub before-free : (k l : Link) → Before k l → clash t k l ≡ false
-  before-free k l b = unclashed k l (λ h. omega arith) (λ h. omega arith) (λ h. omega arith)
-
-  pub after-free : (k l : Link) → Before l k → clash t k l ≡ false
-  after-free k l b = unclashed k l (λ h. omega arith) (λ h. omega arith) (λ h. omega arith)
-
-  pub same-free : (k l : Link) → k ≡ l → clash t k l ≡ false
-  same-free k l s =
-      let low : t .height (k .source) ≡ t .height (l .source) = ap (λ m. t .height (m .source)) s in
-      unclashed k l (λ h. h .differ (ap (λ m. m .target) s)) (λ h. omega arith) (λ h. omega arith)
-
-  follows-to : (x y : Vote) → follows t x y ≡ true → Before (x .link) (y .link)
+  follows-to : (x y : Vote) → follows t x y ≡ true → Before t (x .link) (y .link)
   follows-to x y e =
       let p = and-parts (leb (sourceHeight t x) (sourceHeight t y)) (ltb (targetHeight t x) (targetHeight t y)) e in
       record {
         low = leb-true (sourceHeight t x) (sourceHeight t y) (p .0);
-        high = ltb-true (targetHeight t x) (targetHeight t y) (p .1)
+        high = ltb-true (targetHeight t x) (targetHeight t y) (p .1);
       }
 
   -- the first of rising votes comes before each of the others
-  first-before : (ys : List Vote) (x y : Vote) → risingFrom t x ys ≡ true → y ∈ ys → Before (x .link) (y .link)
+  first-before : (ys : List Vote) (x y : Vote) → risingFrom t x ys ≡ true → y ∈ ys → Before t (x .link) (y .link)
   unfolding risingFrom
   first-before [] x y r m = absurd (List·Memᴰ·not-nil m)
   first-before (z ∷ zs) x y r m =
       let p = and-parts (follows t x z) (risingFrom t z zs) r in
       let b = follows-to x z (p .0) in
-      ⊎-elim (λ e. subst (λ w. Before (x .link) (w .link)) (sym e) b)
+      ⊎-elim (λ e. subst (λ w. Before t (x .link) (w .link)) (sym e) b)
       (λ h. let c = first-before zs z y (p .1) h in record { low = omega arith; high = omega arith }) (List·Memᴰ·cases-cons m)
 
   -- of two rising votes one is the other, or comes before it
   by-place : (ys : List Vote) (z x y : Vote) → risingFrom t z ys ≡ true → (x ∈ ys → y ∈ ys → clash t (x .link) (y .link) ≡ false) →
       (x ≡ z) ⊎ (x ∈ ys) → (y ≡ z) ⊎ (y ∈ ys) → clash t (x .link) (y .link) ≡ false
-  by-place ys z x y r rest (inl e) (inl f) = same-free (x .link) (y .link) (ap (λ w. w .link) (e ∙ sym f))
+  by-place ys z x y r rest (inl e) (inl f) = same-free t (x .link) (y .link) (ap (λ w. w .link) (e ∙ sym f))
   by-place ys z x y r rest (inl e) (inr n) =
-      before-free (x .link) (y .link) (subst (λ w. Before (w .link) (y .link)) (sym e) (first-before ys z y r n))
+      before-free t (x .link) (y .link) (subst (λ w. Before t (w .link) (y .link)) (sym e) (first-before ys z y r n))
   by-place ys z x y r rest (inr m) (inl f) =
-      after-free (x .link) (y .link) (subst (λ w. Before (w .link) (x .link)) (sym f) (first-before ys z x r m))
+      after-free t (x .link) (y .link) (subst (λ w. Before t (w .link) (x .link)) (sym f) (first-before ys z x r m))
   by-place ys z x y r rest (inr m) (inr n) = rest m n
 
   rising-free : (ys : List Vote) (z x y : Vote) → risingFrom t z ys ≡ true → x ∈ (z ∷ ys) → y ∈ (z ∷ ys) →
@@ -104,17 +83,20 @@ module _ (t : Tree) where
   unfolding named
   clean-not-named xs v clean [] hold = refl
   clean-not-named xs v clean (p ∷ ps) hold =
-      or-from (eqb (p .one .voter) v) (named ps v)
-      (ne-eqb (p .one .voter) v (λ e. both-ways (breach t (p .one) (p .other)) (clean (p .one) (p .other) (here .one) (here .other) e) (here .breach)))
+      or-from (eqb (p .one .voter) v) (named ps v) (ne-eqb (p .one .voter) v other)
       (clean-not-named xs v clean ps (λ q m. hold q (List·Memᴰ·tail m)))
     where
-      here : Holds t xs p
-      here = hold p (List·Memᴰ·head refl)
+      other : p .one .voter ≡ v → ⊥
+      other e =
+          let h = hold p (List·Memᴰ·head refl) in
+          both-ways (breach t (p .one) (p .other)) (clean (p .one) (p .other) (h .one) (h .other) e) (h .breach)
 
   pub signed-not-named : (xs : List Vote) (v : ℕ) (ss : List Vote) → signs t bare ss ≡ true →
       ((x : Vote) → x ∈ xs → x .voter ≡ v → x ∈ ss) → (ps : List Proof) → AllHold t xs ps → named ps v ≡ false
   signed-not-named xs v ss s all = clean-not-named xs v clean
     where
       clean : (x y : Vote) → x ∈ xs → y ∈ xs → x .voter ≡ v → breach t x y ≡ false
-      clean x y m n e = ⊎-elim (λ (o : eqb (x .voter) (y .voter) ≡ true). signed-is-clean ss s x y (all x m e) (all y n (sym (eqb-true (x .voter) (y .voter) o) ∙ e)))
-          (λ o. and-left (eqb (x .voter) (y .voter)) (clash t (x .link) (y .link)) o) (cases-bool (eqb (x .voter) (y .voter)))
+      clean x y m n e = ⊎-elim own (and-left (eqb (x .voter) (y .voter)) _) (cases-bool (eqb (x .voter) (y .voter)))
+        where
+          own : eqb (x .voter) (y .voter) ≡ true → breach t x y ≡ false
+          own o = signed-is-clean ss s x y (all x m e) (all y n (sym (eqb-true (x .voter) (y .voter) o) ∙ e))

@@ -1,9 +1,12 @@
-pub mod Carries
 pub mod Weights
-pub mod Trees
-pub mod Clashes
 pub mod Cast
+pub mod Trees
+pub mod Rules
+pub mod Clashes
 pub mod Shown
+pub mod Carries
 pub mod Growing
 pub mod Keeping
 pub mod Cornered
+pub mod Books
+pub mod Marks

@@ -9,7 +9,7 @@ use Rattle.finality.specs.declared.Proof.{Proof}
 use Rattle.finality.specs.declared.Vote.{Vote}
 use Rattle.finality.specs.Tree.{Grown, Tree, Under}
 use Rattle.finality.specs.Links.{link}
-use Rattle.finality.specs.Votes.{AllHold, Electorate, Final, Settled, _∈_, breach, named, quorum, total, weightIn}
+use Rattle.finality.specs.Votes.{AllHold, Electorate, Final, Settled, _∈_, breach, named, quorum, total, vote, weightIn}
 use Rattle.finality.specs.Guard.{bare, guardOf, lets, rising, signs}
 
 -- no two of the votes break the rules
@@ -36,9 +36,6 @@ abbrev pub SignedNotNamed : Type 0
 SignedNotNamed =
     (t : Tree) (xs : List Vote) (v : ℕ) (ss : List Vote) → signs t bare ss ≡ true →
     ((x : Vote) → x ∈ xs → x .voter ≡ v → x ∈ ss) → (ps : List Proof) → AllHold t xs ps → named ps v ≡ false
-
-abbrev pub vote : ℕ → Link → Vote
-vote v k = record { voter = v; link = k }
 
 -- a vote for the link k by each voter below n of whom h holds
 unfoldable pub ballots : ℕ → (ℕ → Bool) → Link → List Vote

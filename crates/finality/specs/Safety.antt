@@ -9,7 +9,8 @@ use Rattle.finality.specs.declared.Link.{Link}
 use Rattle.finality.specs.declared.Vote.{Vote}
 use Rattle.finality.specs.Tree.{Apart, Grown, Tree, Under}
 use Rattle.finality.specs.Links.{Climbs, FinalBy, Passing, SettledBy, clash, link, twice}
-use Rattle.finality.specs.Votes.{Electorate, Final, Settled, Third, ThirdShown, _∈_, both, breach, everyone, quorum, total, weighed, weightIn}
+use Rattle.finality.specs.Votes.{Electorate, Final, Settled, Third, ThirdShown, _∈_, both, breach, everyone, linked, quorum}
+use Rattle.finality.specs.Votes.{total, vote, voted, weighed, weightIn}
 
 -- Of weights alone: two sets of voters weigh at most what all weigh and, once more, those in both.
 abbrev pub SharedWeight : Type 0
@@ -52,12 +53,30 @@ pub record ClashAt (t : Tree) (L : Link → Type 0) (h : ℕ) : Type 0 where
 -- So links clash where two settled pages of one height differ, where a settled page as high as a final one or higher doesn't lie
 -- on it, and where two final pages are apart: at the height of the lower of the two.
 pub record Clashes (t : Tree) (L : Link → Type 0) : Type 0 where
-  pub level : (a b : ℕ) → SettledBy t L a → SettledBy t L b → (a ≡ b → ⊥) → t .height a ≡ t .height b → ClashAt t L (t .height a)
-  pub above : (a b : ℕ) → FinalBy t L a → SettledBy t L b → t .height a ≤ t .height b → (Under t a b → ⊥) → ClashAt t L (t .height a)
+  pub level :
+      (a b : ℕ) → SettledBy t L a → SettledBy t L b → (a ≡ b → ⊥) → t .height a ≡ t .height b → ClashAt t L (t .height a)
+  pub above :
+      (a b : ℕ) → FinalBy t L a → SettledBy t L b → t .height a ≤ t .height b → (Under t a b → ⊥) → ClashAt t L (t .height a)
   pub apart : (a b : ℕ) → FinalBy t L a → FinalBy t L b → Apart t a b → ClashAt t L (min (t .height a) (t .height b))
 
 abbrev pub LinksClash : Type 0
 LinksClash = (t : Tree) → Grown t → (l : Link → Bool) → Clashes t (Passing l)
+
+-- the test holds of every voter who broke the rules
+abbrev pub NamesAll : Tree → List Vote → (ℕ → Bool) → Type 0
+NamesAll t xs p = (x y : Vote) → x ∈ xs → y ∈ xs → breach t x y ≡ true → p (x .voter) ≡ true
+
+-- Who voted for two links that clash has broken the rules, by these two votes of its own.
+abbrev pub BothBreach : Type 0
+BothBreach =
+    (t : Tree) (xs : List Vote) (k l : Link) → clash t k l ≡ true → (v : ℕ) → both (voted xs k) (voted xs l) v ≡ true →
+    (vote v k ∈ xs) × (vote v l ∈ xs) × (breach t (vote v k) (vote v l) ≡ true)
+
+-- So, by any weights, those who broke the rules weigh what the voters for two links that clash weigh beyond the whole.
+abbrev pub ClashWeighs : Type 0
+ClashWeighs =
+    (t : Tree) (xs : List Vote) (k l : Link) → clash t k l ≡ true → (n : ℕ) (w : ℕ → ℕ) (p : ℕ → Bool) → NamesAll t xs p →
+    weighed n w (voted xs k) + weighed n w (voted xs l) ≤ weighed n w everyone + weighed n w p
 
 -- Two settled pages of one height that differ show a third.
 abbrev pub OneAHeight : Type 0
@@ -77,9 +96,14 @@ FinalApart =
     (t : Tree) → Grown t → (vs : Electorate) (xs : List Vote) (a b : ℕ) → Final t vs xs a → Final t vs xs b → Apart t a b →
     ThirdShown t vs xs
 
--- the test holds of every voter who broke the rules
-abbrev pub NamesAll : Tree → List Vote → (ℕ → Bool) → Type 0
-NamesAll t xs p = (x y : Vote) → x ∈ xs → y ∈ xs → breach t x y ≡ true → p (x .voter) ≡ true
+-- The same whatever makes a link, if each one that passes the height of the lower of the two has two thirds by the weights of vs.
+abbrev pub FinalApartBy : Type 0
+FinalApartBy =
+    (t : Tree) → Grown t → (l : Link → Bool) (a b : ℕ) → FinalBy t (Passing l) a → FinalBy t (Passing l) b → Apart t a b →
+    (vs : Electorate) (xs : List Vote) →
+    ((k : Link) → l k ≡ true → t .height (k .source) ≤ min (t .height a) (t .height b) →
+    min (t .height a) (t .height b) ≤ t .height (k .target) → linked vs xs k ≡ true) →
+    ThirdShown t vs xs
 
 -- Whoever names every voter that broke the rules has then named a third.
 abbrev pub AllNamed : Type 0

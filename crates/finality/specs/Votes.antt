@@ -42,6 +42,10 @@ total vs = weightIn vs everyone
 abbrev pub quorum : ℕ → ℕ → Bool
 quorum part whole = leb (2 * whole) (3 * part)
 
+abbrev pub vote : ℕ → Link → Vote
+vote v k = record { voter = v; link = k }
+
+-- x is the vote of v for the link k
 abbrev pub isVote : Link → ℕ → Vote → Bool
 isVote k v x = eqb (x .voter) v && eqb (x .link .source) (k .source) && eqb (x .link .target) (k .target)
 

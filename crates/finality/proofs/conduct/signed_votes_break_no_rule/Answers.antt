@@ -1,5 +1,5 @@
 use Rattle.finality.proofs.Keeping.{rising-is-clean, signed-is-clean}
-use Rattle.finality.proofs.signed_votes_break_no_rule.Needs as need
+use Rattle.finality.proofs.conduct.signed_votes_break_no_rule.Needs as need
 
 pub returns : need.returns
 returns c = (rising-is-clean, signed-is-clean)
