@@ -11,7 +11,7 @@ use Rattle.finality.specs.declared.Link.{Link}
 use Rattle.finality.specs.Tree.{Apart, Grown, Tree, Under, self}
 use Rattle.finality.specs.Links.{FinalBy, Passing, SettledBy, clash, first, link, next, twice}
 use Rattle.finality.specs.Safety.{ClashAt, Clashes, Crossed, Crossing}
-use Rattle.finality.proofs.Rules.{around-from, clash-around, clash-twice, twice-from}
+use Rattle.finality.proofs.Breaches.{around-from, clash-around, clash-twice, twice-from}
 use Rattle.finality.proofs.Trees.{above-first, lowest, right-under, under-trans}
 
 module _ (t : Tree) (g : Grown t) (L : Link → Type 0) where
@@ -48,7 +48,7 @@ module _ (t : Tree) (g : Grown t) (L : Link → Type 0) where
   -- how it clashes, by where it ends: as high as a, as high as the page d right on top of a, or higher
   module _ {a d b : ℕ} (i : 1 ≤ d) (on : t .parent d ≡ a) (aside : Under t a b → ⊥) (c : Crossing t L a b) where
     tall : t .height d ≡ t .height a + 1
-    tall = g .up d i ∙ ap (λ n. t .height n + 1) on
+    tall = omega (arith, g .up d i, ap (t .height) on)
 
     -- it doesn't end at a page that lies on a
     missed : (x : ℕ) → Under t a x → c .step .target ≡ x → ⊥

@@ -2,13 +2,12 @@
 -- Assumes nothing.
 use mathlib.Core.Path.{_≡_, refl, sym, ap, subst, _∙_}
 use mathlib.Core.Logic.{_⊎_, inl, inr, ⊎-elim}
-use mathlib.Core.Bool.{Bool, true, false, cond, _&&_}
-use mathlib.Core.List.{List, [], _∷_, _++_, List·Memᴰ·append-cases, List·Memᴰ·cases-cons, List·Memᴰ·eq-of-singleton}
-use mathlib.Core.List.{List·Memᴰ·head, List·Memᴰ·not-nil, List·Memᴰ·tail, Memᴰ·append-left, Memᴰ·append-right}
-use Prim.Native.Nat.{ℕ, zero, suc, _<_, _≤_}
+use mathlib.Core.Bool.{Bool, true, false}
+use mathlib.Core.List.{List, [], _∷_, _++_, List·Memᴰ·append-cases, List·Memᴰ·eq-of-singleton}
+use mathlib.Core.List.{List·Memᴰ·head, List·Memᴰ·tail, Memᴰ·append-left, Memᴰ·append-right}
+use Prim.Native.Nat.{ℕ, _<_, _≤_}
 use native.Mathlib.Omega.{arith}
-use lib.Dec.{leb, ltb}
-use Rattle.std.proofs.shelf.Tests.{and-from, cases-eq, false≢true, le-leb, lt-ltb, or-left, or-right}
+use Rattle.std.proofs.shelf.Tests.{and-from, le-leb, lt-ltb, or-left, or-right}
 use Rattle.finality.specs.declared.Link.{Link}
 use Rattle.finality.specs.declared.Vote.{Vote}
 use Rattle.finality.specs.Tree.{Tree}
@@ -17,36 +16,18 @@ use Rattle.finality.specs.Votes.{Electorate, Settled, _∈_, breach, linked, v
 use Rattle.finality.specs.Guard.{Guard, after, bare, guardOf, lets}
 use Rattle.finality.specs.Conduct.{Clean, Keepers, NeverCornered, also, ballots, cast, mayVote}
 use Rattle.finality.proofs.Cast.{cast-voted}
+use Rattle.finality.proofs.Each.{each-of, in-each}
 use Rattle.finality.proofs.Growing.{more-votes}
 use Rattle.finality.proofs.Keeping.{clear}
-use Rattle.finality.proofs.Rules.{Before, after-free, before-free, same-free}
+use Rattle.finality.proofs.Breaches.{Before, after-free, before-free, same-free}
 use Rattle.finality.proofs.Weights.{quorum-within}
 
 -- each of the ballots is a vote for the link by one of the voters
-ballots-of : (n : ℕ) (h : ℕ → Bool) (k : Link) (x : Vote) → x ∈ ballots n h k → (h (x .voter) ≡ true) × (x ≡ vote (x .voter) k)
-unfolding ballots
-ballots-of zero h k x m = absurd (List·Memᴰ·not-nil m)
-ballots-of (suc n) h k x m = by-test (h n) refl m (ballots-of n h k x)
-  where
-    by-test : (b : Bool) → h n ≡ b → x ∈ cond b (vote n k ∷ ballots n h k) (ballots n h k) →
-        (x ∈ ballots n h k → (h (x .voter) ≡ true) × (x ≡ vote (x .voter) k)) → (h (x .voter) ≡ true) × (x ≡ vote (x .voter) k)
-    by-test true t m rest =
-        ⊎-elim (λ e. (ap (λ y. h (y .voter)) e ∙ t, e ∙ sym (ap (λ y. vote (y .voter) k) e))) rest (List·Memᴰ·cases-cons m)
-    by-test false t m rest = rest m
-
-in-ballots : (n : ℕ) (h : ℕ → Bool) (k : Link) (v : ℕ) → v < n → h v ≡ true → vote v k ∈ ballots n h k
-unfolding ballots
-in-ballots zero h k v i e = absurd (omega arith)
-in-ballots (suc n) h k v i e =
-    ⊎-elim (λ f. here (h n) (subst (λ w. h w ≡ true) f e) f) (λ d. before (h n) (in-ballots n h k v (omega arith) e)) (cases-eq v n)
-  where
-    here : (b : Bool) → b ≡ true → v ≡ n → vote v k ∈ cond b (vote n k ∷ ballots n h k) (ballots n h k)
-    here true g f = List·Memᴰ·head (ap (λ w. vote w k) f)
-    here false g f = absurd (false≢true g)
-
-    before : (b : Bool) → vote v k ∈ ballots n h k → vote v k ∈ cond b (vote n k ∷ ballots n h k) (ballots n h k)
-    before true m = List·Memᴰ·tail m
-    before false m = m
+ballots-of : (vs : Electorate) (h : ℕ → Bool) (k : Link) (x : Vote) → x ∈ ballots vs h k →
+    (h (x .voter) ≡ true) × (x ≡ vote (x .voter) k)
+ballots-of vs h k x m =
+    let o = each-of h (λ v. vote v k) (vs .count) x m in
+    (ap (λ y. h (y .voter)) (o .2) ∙ o .1, o .2 ∙ sym (ap (λ y. vote (y .voter) k) (o .2)))
 
 module _ (t : Tree) where
   -- the link k comes after all the votes
@@ -67,13 +48,8 @@ module _ (t : Tree) where
   ready-lets : (g : Guard) (k : Link) → Ready g k → t .height (k .source) < t .height (k .target) →
       lets g (t .height (k .source)) (t .height (k .target)) ≡ true
   ready-lets g k r up =
-      and-from _ _ (lt-ltb (t .height (k .source)) (t .height (k .target)) up)
-      (⊎-elim (or-left (g .fresh) _) (λ p. or-right (g .fresh) _ (higher p)) r)
-    where
-      higher : (g .source ≤ t .height (k .source)) × (g .target < t .height (k .target)) →
-          (leb (g .source) (t .height (k .source)) && ltb (g .target) (t .height (k .target))) ≡ true
-      higher p =
-          and-from _ _ (le-leb (g .source) (t .height (k .source)) (p .0)) (lt-ltb (g .target) (t .height (k .target)) (p .1))
+      and-from _ _ (lt-ltb _ _ up)
+      (⊎-elim (or-left (g .fresh) _) (λ p. or-right (g .fresh) _ (and-from _ _ (le-leb _ _ (p .0)) (lt-ltb _ _ (p .1)))) r)
 
   above-lets : (signed : ℕ → List Vote) (k : Link) (v : ℕ) → Above (signed v) k → t .height (k .source) < t .height (k .target) →
       mayVote t signed k v ≡ true
@@ -96,12 +72,12 @@ module _ (t : Tree) where
 
   module _ (vs : Electorate) (xs : List Vote) (h : ℕ → Bool) (signed : ℕ → List Vote) (c : Keepers t vs xs h signed) (k : Link) where
     more : (a : ℕ) → Settled t vs xs a → Settled t vs (cast vs h k xs) a
-    more a = more-votes t vs xs (cast vs h k xs) (λ x m. Memᴰ·append-right (ballots (vs .count) h k) m) a .0
+    more a = more-votes t vs xs (cast vs h k xs) (λ x m. Memᴰ·append-right (ballots vs h k) m) a .0
 
     cast-links : linked vs (cast vs h k xs) k ≡ true
     cast-links =
         quorum-within vs h (voted (cast vs h k xs) k)
-        (λ v i e. cast-voted k v (Memᴰ·append-left xs (in-ballots (vs .count) h k v i e))) (c .most)
+        (λ v i e. cast-voted k v (Memᴰ·append-left xs (in-each h (λ w. vote w k) (vs .count) v i e))) (c .most)
 
     -- a vote of each from a settled page, above all that it signed
     cast-keeps : Settled t vs xs (k .source) → ((v : ℕ) → h v ≡ true → Above (signed v) k) →
@@ -111,8 +87,8 @@ module _ (t : Tree) where
       where
         all : (x : Vote) → x ∈ cast vs h k xs → h (x .voter) ≡ true → x ∈ also signed k (x .voter)
         all x m e =
-            ⊎-elim (λ n. Memᴰ·append-right (signed (x .voter)) (List·Memᴰ·head (ballots-of (vs .count) h k x n .1)))
-            (λ n. Memᴰ·append-left (vote (x .voter) k ∷ []) (c .all x n e)) (List·Memᴰ·append-cases (ballots (vs .count) h k) m)
+            ⊎-elim (λ n. Memᴰ·append-right (signed (x .voter)) (List·Memᴰ·head (ballots-of vs h k x n .1)))
+            (λ n. Memᴰ·append-left (vote (x .voter) k ∷ []) (c .all x n e)) (List·Memᴰ·append-cases (ballots vs h k) m)
 
         from : (v : ℕ) → h v ≡ true → (x : Vote) → x ∈ also signed k v → Settled t vs (cast vs h k xs) (x .link .source)
         from v e x m =
@@ -126,7 +102,7 @@ module _ (t : Tree) where
 pub never-cornered : NeverCornered
 never-cornered t g vs xs h signed keepers a s top c d on up i right bound =
     record {
-      theirs = λ k x m. let p = ballots-of (vs .count) h k x m in (p .0, ap (λ y. y .link) (p .1));
+      theirs = λ k x m. let p = ballots-of vs h k x m in (p .0, ap (λ y. y .link) (p .1));
       first = λ v e. above-lets t signed (link a c) v (high v e) up;
       second = λ v e. above-lets t (also signed (link a c)) (link c d) v (higher v e) tall;
       keep = cast-keeps t vs (cast vs h (link a c) xs) h (also signed (link a c)) kept (link c d) settled higher;
@@ -144,7 +120,7 @@ never-cornered t g vs xs h signed keepers a s top c d on up i right bound =
     tall = omega (arith, g .up d i, ap (t .height) right)
 
     high : (v : ℕ) → h v ≡ true → Above t (signed v) (link a c)
-    high v e x m = record { low = top (x .link .source) (keepers .from v e x m); high = bound v e x m }
+    high v e x m = record { low = top (x .link .source) (keepers .from v e x m); high = omega (arith, bound v e x m) }
 
     higher : (v : ℕ) → h v ≡ true → Above t (also signed (link a c) v) (link c d)
     higher v e x m = ⊎-elim old new (List·Memᴰ·append-cases (signed v) m)

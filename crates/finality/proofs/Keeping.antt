@@ -3,43 +3,40 @@
 use mathlib.Core.Path.{_≡_, refl, sym, ap, subst, _∙_}
 use mathlib.Core.Logic.{_⊎_, inl, inr, ⊎-elim}
 use mathlib.Core.Bool.{true, false}
-use mathlib.Core.List.{List, [], _∷_, List·Memᴰ·cases-cons, List·Memᴰ·head, List·Memᴰ·not-nil, List·Memᴰ·tail}
+use mathlib.Core.List.{List, [], _∷_, List·Memᴰ·cases-cons, List·Memᴰ·not-nil}
 use Prim.Native.Nat.{ℕ}
 use native.Mathlib.Omega.{arith}
-use lib.Dec.{eqb, leb, ltb}
+use lib.Dec.{eqb}
 use Rattle.std.proofs.shelf.Tests.{and-from, and-left, and-parts, and-right, both-ways, cases-bool, eqb-true, leb-true}
-use Rattle.std.proofs.shelf.Tests.{ltb-true, ne-eqb, or-from}
+use Rattle.std.proofs.shelf.Tests.{ltb-true}
 use Rattle.finality.specs.declared.Proof.{Proof}
 use Rattle.finality.specs.declared.Vote.{Vote}
 use Rattle.finality.specs.Tree.{Tree}
 use Rattle.finality.specs.Links.{clash}
 use Rattle.finality.specs.Votes.{AllHold, _∈_, breach, named}
-use Rattle.finality.specs.Guard.{after, bare, follows, lets, rising, risingFrom, signs, sourceHeight, targetHeight}
+use Rattle.finality.specs.Guard.{after, bare, follows, rising, risingFrom, signs}
 use Rattle.finality.specs.Conduct.{Clean}
-use Rattle.finality.proofs.Rules.{Before, after-free, before-free, same-free}
+use Rattle.finality.proofs.Cast.{named-shown}
+use Rattle.finality.proofs.Breaches.{Before, refuted, after-free, before-free, same-free}
 
 module _ (t : Tree) where
   follows-to : (x y : Vote) → follows t x y ≡ true → Before t (x .link) (y .link)
   follows-to x y e =
-      let p = and-parts (leb (sourceHeight t x) (sourceHeight t y)) (ltb (targetHeight t x) (targetHeight t y)) e in
-      record {
-        low = leb-true (sourceHeight t x) (sourceHeight t y) (p .0);
-        high = ltb-true (targetHeight t x) (targetHeight t y) (p .1);
-      }
+      let p = and-parts _ _ e in record { low = leb-true _ _ (p .0); high = ltb-true _ _ (p .1) }
 
   -- the first of rising votes comes before each of the others
   first-before : (ys : List Vote) (x y : Vote) → risingFrom t x ys ≡ true → y ∈ ys → Before t (x .link) (y .link)
   unfolding risingFrom
   first-before [] x y r m = absurd (List·Memᴰ·not-nil m)
   first-before (z ∷ zs) x y r m =
-      let p = and-parts (follows t x z) (risingFrom t z zs) r in
+      let p = and-parts _ _ r in
       let b = follows-to x z (p .0) in
       ⊎-elim (λ e. subst (λ w. Before t (x .link) (w .link)) (sym e) b)
       (λ h. let c = first-before zs z y (p .1) h in record { low = omega arith; high = omega arith }) (List·Memᴰ·cases-cons m)
 
   -- of two rising votes one is the other, or comes before it
-  by-place : (ys : List Vote) (z x y : Vote) → risingFrom t z ys ≡ true → (x ∈ ys → y ∈ ys → clash t (x .link) (y .link) ≡ false) →
-      (x ≡ z) ⊎ (x ∈ ys) → (y ≡ z) ⊎ (y ∈ ys) → clash t (x .link) (y .link) ≡ false
+  by-place : (ys : List Vote) (z x y : Vote) → risingFrom t z ys ≡ true →
+      (x ∈ ys → y ∈ ys → clash t (x .link) (y .link) ≡ false) → (x ≡ z) ⊎ (x ∈ ys) → (y ≡ z) ⊎ (y ∈ ys) → clash t (x .link) (y .link) ≡ false
   by-place ys z x y r rest (inl e) (inl f) = same-free t (x .link) (y .link) (ap (λ w. w .link) (e ∙ sym f))
   by-place ys z x y r rest (inl e) (inr n) =
       before-free t (x .link) (y .link) (subst (λ w. Before t (w .link) (y .link)) (sym e) (first-before ys z y r n))
@@ -53,11 +50,11 @@ module _ (t : Tree) where
   rising-free [] z x y r m n =
       by-place [] z x y r (λ k. absurd (List·Memᴰ·not-nil k)) (List·Memᴰ·cases-cons m) (List·Memᴰ·cases-cons n)
   rising-free (w ∷ ws) z x y r m n =
-      let p = and-parts (follows t z w) (risingFrom t w ws) r in
+      let p = and-parts _ _ r in
       by-place (w ∷ ws) z x y r (rising-free ws w x y (p .1)) (List·Memᴰ·cases-cons m) (List·Memᴰ·cases-cons n)
 
   pub clear : (x y : Vote) → clash t (x .link) (y .link) ≡ false → breach t x y ≡ false
-  clear x y e = and-right (eqb (x .voter) (y .voter)) (clash t (x .link) (y .link)) e
+  clear x y e = and-right (eqb (x .voter) (y .voter)) _ e
 
   pub rising-is-clean : (xs : List Vote) → rising t xs ≡ true → Clean t xs
   rising-is-clean [] r = λ x y m n. absurd (List·Memᴰ·not-nil m)
@@ -67,29 +64,26 @@ module _ (t : Tree) where
   unfolding signs risingFrom
   signed-rises [] x e = refl
   signed-rises (y ∷ ys) x e =
-      let p = and-parts (lets (after t x) (sourceHeight t y) (targetHeight t y)) (signs t (after t y) ys) e in
-      let q = and-parts (ltb (sourceHeight t y) (targetHeight t y)) (follows t x y) (p .0) in
-      and-from (follows t x y) (risingFrom t y ys) (q .1) (signed-rises ys y (p .1))
+      let p = and-parts _ _ e in
+      let q = and-parts _ _ (p .0) in
+      and-from _ _ (q .1) (signed-rises ys y (p .1))
 
   pub signed-is-clean : (xs : List Vote) → signs t bare xs ≡ true → Clean t xs
   unfolding signs
   signed-is-clean [] e = λ x y m n. absurd (List·Memᴰ·not-nil m)
   signed-is-clean (z ∷ zs) e =
-      let p = and-parts (lets bare (sourceHeight t z) (targetHeight t z)) (signs t (after t z) zs) e in
+      let p = and-parts _ _ e in
       rising-is-clean (z ∷ zs) (signed-rises zs z (p .1))
 
   pub clean-not-named : (xs : List Vote) (v : ℕ) → ((x y : Vote) → x ∈ xs → y ∈ xs → x .voter ≡ v → breach t x y ≡ false) →
       (ps : List Proof) → AllHold t xs ps → named ps v ≡ false
-  unfolding named
-  clean-not-named xs v clean [] hold = refl
-  clean-not-named xs v clean (p ∷ ps) hold =
-      or-from (eqb (p .one .voter) v) (named ps v) (ne-eqb (p .one .voter) v other)
-      (clean-not-named xs v clean ps (λ q m. hold q (List·Memᴰ·tail m)))
+  clean-not-named xs v clean ps hold = refuted (named ps v) shown
     where
-      other : p .one .voter ≡ v → ⊥
-      other e =
-          let h = hold p (List·Memᴰ·head refl) in
-          both-ways (breach t (p .one) (p .other)) (clean (p .one) (p .other) (h .one) (h .other) e) (h .breach)
+      shown : named ps v ≡ true → ⊥
+      shown e =
+          let p = named-shown ps v e in
+          let h = hold (p .0) (p .1) in
+          both-ways _ (clean (p .0 .one) (p .0 .other) (h .one) (h .other) (p .2)) (h .breach)
 
   pub signed-not-named : (xs : List Vote) (v : ℕ) (ss : List Vote) → signs t bare ss ≡ true →
       ((x : Vote) → x ∈ xs → x .voter ≡ v → x ∈ ss) → (ps : List Proof) → AllHold t xs ps → named ps v ≡ false

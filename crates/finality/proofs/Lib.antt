@@ -1,7 +1,8 @@
+pub mod Each
 pub mod Weights
 pub mod Cast
 pub mod Trees
-pub mod Rules
+pub mod Breaches
 pub mod Clashes
 pub mod Shown
 pub mod Carries

@@ -2,21 +2,22 @@
 -- Assumes nothing.
 use mathlib.Core.Path.{_≡_, refl, sym, subst}
 use mathlib.Core.Logic.{_⊎_, inl, inr, ⊎-elim}
-use mathlib.Core.Bool.{Bool, true, false, cond}
-use mathlib.Core.List.{List, [], _∷_, List·Memᴰ·cases-cons, List·Memᴰ·not-nil}
-use Prim.Native.Nat.{ℕ, zero, suc, _+_, _*_, _<_, _≤_, min}
+use mathlib.Core.Bool.{Bool, true}
+use mathlib.Core.List.{List}
+use Prim.Native.Nat.{ℕ, _+_, _<_, _≤_, min}
 use native.Mathlib.Omega.{arith}
 use lib.Dec.{eqb}
-use Rattle.std.proofs.shelf.Tests.{and-from, and-parts, cases-eq, eq-eqb, false≢true, leb-true, or-left, or-right}
+use Rattle.std.proofs.shelf.Tests.{and-from, and-parts, eq-eqb, leb-true}
 use Rattle.finality.specs.declared.Link.{Link}
 use Rattle.finality.specs.declared.Proof.{Proof}
 use Rattle.finality.specs.declared.Vote.{Vote}
 use Rattle.finality.specs.Tree.{Apart, Grown, Tree, Under}
 use Rattle.finality.specs.Links.{Passing, clash}
-use Rattle.finality.specs.Votes.{AllHold, Electorate, Final, Holds, Settled, Third, ThirdShown, _∈_, both, breach, everyone}
-use Rattle.finality.specs.Votes.{linked, named, total, vote, voted, weighed, weightIn}
+use Rattle.finality.specs.Votes.{AllHold, Electorate, Final, Holds, Settled, Third, ThirdShown, _∈_, both, breach, each}
+use Rattle.finality.specs.Votes.{everyone, linked, named, vote, voted, weighed}
 use Rattle.finality.specs.Safety.{ClashAt, FinalApartBy, NamesAll}
-use Rattle.finality.proofs.Cast.{voted-cast}
+use Rattle.finality.proofs.Cast.{shown-named, voted-cast}
+use Rattle.finality.proofs.Each.{each-of, in-each}
 use Rattle.finality.proofs.Clashes.{above, apart, level}
 use Rattle.finality.proofs.Trees.{under-or-not}
 use Rattle.finality.proofs.Weights.{lighter, shared-third, shared-weight}
@@ -26,7 +27,7 @@ module _ (t : Tree) (xs : List Vote) (k l : Link) (c : clash t k l ≡ true) whe
   pub both-breach : (v : ℕ) → both (voted xs k) (voted xs l) v ≡ true →
       (vote v k ∈ xs) × (vote v l ∈ xs) × (breach t (vote v k) (vote v l) ≡ true)
   both-breach v e =
-      let q = and-parts (voted xs k v) (voted xs l v) e in
+      let q = and-parts _ _ e in
       (voted-cast xs k v (q .0), voted-cast xs l v (q .1), and-from (eqb v v) (clash t k l) (eq-eqb v v refl) c)
 
   -- so by any weights those who broke the rules weigh what the two links have beyond the whole
@@ -44,36 +45,18 @@ module _ (t : Tree) (xs : List Vote) (k l : Link) (c : clash t k l ≡ true) whe
 
   -- a proof for each voter below n who voted for both
   proofs : ℕ → List Proof
-  proofs zero = []
-  proofs (suc n) = cond (both (voted xs k) (voted xs l) n) (shown n ∷ proofs n) (proofs n)
+  proofs n = each n (both (voted xs k) (voted xs l)) shown
 
   all-hold : (n : ℕ) → AllHold t xs (proofs n)
   unfolding proofs shown
-  all-hold zero = λ p m. absurd (List·Memᴰ·not-nil m)
-  all-hold (suc n) = by-test (both (voted xs k) (voted xs l) n) refl (all-hold n)
-    where
-      here : both (voted xs k) (voted xs l) n ≡ true → Holds t xs (shown n)
-      here e = let b = both-breach n e in record { one = b .0; other = b .1; breach = b .2 }
-
-      by-test : (b : Bool) → both (voted xs k) (voted xs l) n ≡ b → AllHold t xs (proofs n) →
-          AllHold t xs (cond b (shown n ∷ proofs n) (proofs n))
-      by-test false e rest = rest
-      by-test true e rest = λ p m. ⊎-elim (λ h. subst (Holds t xs) (sym h) (here e)) (rest p) (List·Memᴰ·cases-cons m)
+  all-hold n p m =
+      let o = each-of (both (voted xs k) (voted xs l)) shown n p m in
+      let b = both-breach (o .0) (o .1) in
+      subst (Holds t xs) (sym (o .2)) (record { one = b .0; other = b .1; breach = b .2 })
 
   all-named : (n v : ℕ) → v < n → both (voted xs k) (voted xs l) v ≡ true → named (proofs n) v ≡ true
-  unfolding proofs shown named
-  all-named zero v i e = absurd (omega arith)
-  all-named (suc n) v i e =
-      ⊎-elim (λ h. here (both (voted xs k) (voted xs l) n) (subst (λ x. both (voted xs k) (voted xs l) x ≡ true) h e) h)
-      (λ d. before (both (voted xs k) (voted xs l) n) (all-named n v (omega arith) e)) (cases-eq v n)
-    where
-      here : (b : Bool) → b ≡ true → v ≡ n → named (cond b (shown n ∷ proofs n) (proofs n)) v ≡ true
-      here true h f = or-left (eqb n v) (named (proofs n) v) (eq-eqb n v (sym f))
-      here false h f = absurd (false≢true h)
-
-      before : (b : Bool) → named (proofs n) v ≡ true → named (cond b (shown n ∷ proofs n) (proofs n)) v ≡ true
-      before true h = or-right (eqb n v) (named (proofs n) v) h
-      before false h = h
+  unfolding proofs shown
+  all-named n v i e = shown-named v (shown v) (in-each (both (voted xs k) (voted xs l)) shown n v i e) refl
 
 -- Links that clash at a height, where each link that passes it has a quorum by the weights of vs.
 module _ (t : Tree) (vs : Electorate) (xs : List Vote) (L : Link → Type 0) (h : ℕ)
@@ -90,8 +73,8 @@ module _ (t : Tree) (vs : Electorate) (xs : List Vote) (L : Link → Type 0) (h 
 
   pub third-named : (p : ℕ → Bool) → NamesAll t xs p → Third vs p
   third-named p all =
-      let a = leb-true (2 * total vs) (3 * weightIn vs (voted xs (c .one))) one-linked in
-      let b = leb-true (2 * total vs) (3 * weightIn vs (voted xs (c .other))) other-linked in
+      let a = leb-true _ _ one-linked in
+      let b = leb-true _ _ other-linked in
       let w = clash-weighs t xs (c .one) (c .other) (c .clash) (vs .count) (vs .weight) p all in
       omega arith
 

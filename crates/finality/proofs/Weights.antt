@@ -2,7 +2,7 @@
 -- Assumes nothing.
 use mathlib.Core.Path.{_≡_, refl}
 use mathlib.Core.Bool.{Bool, true, false, cond, _&&_}
-use Prim.Native.Nat.{ℕ, zero, suc, _+_, _*_, _<_, _≤_}
+use Prim.Native.Nat.{ℕ, zero, suc, _+_, _<_, _≤_}
 use native.Mathlib.Omega.{arith}
 use Rattle.std.proofs.shelf.Tests.{false≢true, le-leb, leb-true}
 use Rattle.finality.specs.Votes.{Electorate, Third, both, everyone, quorum, total, weighed, weightIn}
@@ -26,8 +26,8 @@ shared-weight (suc n) w p q =
 pub shared-third : (vs : Electorate) (p q : ℕ → Bool) → quorum (weightIn vs p) (total vs) ≡ true →
     quorum (weightIn vs q) (total vs) ≡ true → Third vs (both p q)
 shared-third vs p q a b =
-    let x = leb-true (2 * total vs) (3 * weightIn vs p) a in
-    let y = leb-true (2 * total vs) (3 * weightIn vs q) b in
+    let x = leb-true _ _ a in
+    let y = leb-true _ _ b in
     let s = shared-weight (vs .count) (vs .weight) p q in
     omega arith
 
@@ -49,6 +49,6 @@ lighter (suc n) w p q h =
 pub quorum-within : (vs : Electorate) (p q : ℕ → Bool) → ((v : ℕ) → v < vs .count → p v ≡ true → q v ≡ true) →
     quorum (weightIn vs p) (total vs) ≡ true → quorum (weightIn vs q) (total vs) ≡ true
 quorum-within vs p q h e =
-    let a = leb-true (2 * total vs) (3 * weightIn vs p) e in
+    let a = leb-true _ _ e in
     let b = lighter (vs .count) (vs .weight) p q h in
-    le-leb (2 * total vs) (3 * weightIn vs q) (omega arith)
+    le-leb _ _ (omega arith)

@@ -1,15 +1,15 @@
 -- Those who keep the rules: they are never named, and never cornered.
 -- Assumes nothing.
 use mathlib.Core.Path.{_≡_}
-use mathlib.Core.Bool.{Bool, true, false, cond}
+use mathlib.Core.Bool.{Bool, true, false}
 use mathlib.Core.List.{List, [], _∷_, _++_}
-use Prim.Native.Nat.{ℕ, zero, suc, _<_, _≤_}
+use Prim.Native.Nat.{ℕ, _<_, _≤_}
 use Rattle.finality.specs.declared.Link.{Link}
 use Rattle.finality.specs.declared.Proof.{Proof}
 use Rattle.finality.specs.declared.Vote.{Vote}
 use Rattle.finality.specs.Tree.{Grown, Tree, Under}
 use Rattle.finality.specs.Links.{link}
-use Rattle.finality.specs.Votes.{AllHold, Electorate, Final, Settled, _∈_, breach, named, quorum, total, vote, weightIn}
+use Rattle.finality.specs.Votes.{AllHold, Electorate, Final, Settled, _∈_, breach, each, named, quorum, total, vote, weightIn}
 use Rattle.finality.specs.Guard.{bare, guardOf, lets, rising, signs}
 
 -- no two of the votes break the rules
@@ -37,10 +37,9 @@ SignedNotNamed =
     (t : Tree) (xs : List Vote) (v : ℕ) (ss : List Vote) → signs t bare ss ≡ true →
     ((x : Vote) → x ∈ xs → x .voter ≡ v → x ∈ ss) → (ps : List Proof) → AllHold t xs ps → named ps v ≡ false
 
--- a vote for the link k by each voter below n of whom h holds
-unfoldable pub ballots : ℕ → (ℕ → Bool) → Link → List Vote
-ballots zero h k = []
-ballots (suc n) h k = cond (h n) (vote n k ∷ ballots n h k) (ballots n h k)
+-- a vote for the link k by each voter of whom h holds
+abbrev pub ballots : Electorate → (ℕ → Bool) → Link → List Vote
+ballots vs h k = each (vs .count) h (λ v. vote v k)
 
 -- The voters of whom h holds keep the rules among the votes xs, and are two thirds. What each has signed, handed out or not, is
 -- signed v: it breaks no rule, and goes up from settled pages only.
@@ -52,7 +51,7 @@ pub record Keepers (t : Tree) (vs : Electorate) (xs : List Vote) (h : ℕ → Bo
 
 -- the votes once each of them has voted for the link k, and what each has signed with it
 abbrev pub cast : Electorate → (ℕ → Bool) → Link → List Vote → List Vote
-cast vs h k xs = ballots (vs .count) h k ++ xs
+cast vs h k xs = ballots vs h k ++ xs
 
 abbrev pub also : (ℕ → List Vote) → Link → ℕ → List Vote
 also signed k v = signed v ++ vote v k ∷ []
@@ -64,7 +63,7 @@ mayVote t signed k v = lets (guardOf t bare (signed v)) (t .height (k .source)) 
 -- What two more votes of each keeper, from a to c and then from c to d, come to: the votes are the keepers' alone, the guard of
 -- each lets first the one and then the other through, they keep the rules with them, and c is final.
 pub record Way (t : Tree) (vs : Electorate) (xs : List Vote) (h : ℕ → Bool) (signed : ℕ → List Vote) (a c d : ℕ) : Type 0 where
-  pub theirs : (k : Link) (x : Vote) → x ∈ ballots (vs .count) h k → (h (x .voter) ≡ true) × (x .link ≡ k)
+  pub theirs : (k : Link) (x : Vote) → x ∈ ballots vs h k → (h (x .voter) ≡ true) × (x .link ≡ k)
   pub first : (v : ℕ) → h v ≡ true → mayVote t signed (link a c) v ≡ true
   pub second : (v : ℕ) → h v ≡ true → mayVote t (also signed (link a c)) (link c d) v ≡ true
   pub keep : Keepers t vs (cast vs h (link c d) (cast vs h (link a c) xs)) h (also (also signed (link a c)) (link c d))

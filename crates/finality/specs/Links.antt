@@ -33,11 +33,21 @@ pub record FinalBy (t : Tree) (L : Link → Type 0) (a : ℕ) : Type 0 where
   pub on : t .parent top ≡ a
   pub linked : L (link a top)
 
--- two links to different pages of one height
+-- The two rules, in words. Nobody may vote for two links to different pages of one height.
+pub record Twice (t : Tree) (k l : Link) : Type 0 where
+  pub differ : k .target ≡ l .target → ⊥
+  pub level : t .height (k .target) ≡ t .height (l .target)
+
+-- Nor for a link around another: one that starts below the other, which goes up, and ends above it.
+pub record Around (t : Tree) (k l : Link) : Type 0 where
+  pub lower : t .height (k .source) < t .height (l .source)
+  pub rises : t .height (l .source) < t .height (l .target)
+  pub higher : t .height (l .target) < t .height (k .target)
+
+-- And as tests.
 abbrev pub twice : Tree → Link → Link → Bool
 twice t k l = not (eqb (k .target) (l .target)) && eqb (t .height (k .target)) (t .height (l .target))
 
--- the first link starts below the second, which goes up and ends below the first's end
 abbrev pub around : Tree → Link → Link → Bool
 around t k l =
     ltb (t .height (k .source)) (t .height (l .source)) && ltb (t .height (l .source)) (t .height (l .target)) &&

@@ -1,6 +1,7 @@
 -- Votes for links: who voted for what, which links two thirds of the weight make, and what two votes of one voter break the rules.
 -- Assumes nothing.
 use mathlib.Core.Path.{_≡_}
+use mathlib.Core.Logic.{_↔_, _⊎_}
 use mathlib.Core.Bool.{Bool, true, false, cond, _&&_, _||_}
 use mathlib.Core.List.{List, [], _∷_, List·Memᴰ}
 use Prim.Native.Nat.{ℕ, zero, suc, _+_, _*_, _≤_}
@@ -9,7 +10,7 @@ use Rattle.finality.specs.declared.Link.{Link}
 use Rattle.finality.specs.declared.Proof.{Proof}
 use Rattle.finality.specs.declared.Vote.{Vote}
 use Rattle.finality.specs.Tree.{Tree}
-use Rattle.finality.specs.Links.{FinalBy, Passing, SettledBy, clash}
+use Rattle.finality.specs.Links.{Around, FinalBy, Passing, SettledBy, Twice, clash}
 
 infix 4 _∈_
 abbrev pub _∈_ : {A : Type 0} → A → List A → Type 0
@@ -24,6 +25,11 @@ pub record Electorate : Type 0 where
 unfoldable pub weighed : ℕ → (ℕ → ℕ) → (ℕ → Bool) → ℕ
 weighed zero w p = 0
 weighed (suc n) w p = cond (p n) (w n) 0 + weighed n w p
+
+-- what f gives for each voter below n for whom a test holds
+unfoldable pub each : {A : Type 0} → ℕ → (ℕ → Bool) → (ℕ → A) → List A
+each zero p f = []
+each (suc n) p f = cond (p n) (f n ∷ each n p f) (each n p f)
 
 abbrev pub everyone : ℕ → Bool
 everyone v = true
@@ -91,3 +97,16 @@ pub record ThirdShown (t : Tree) (vs : Electorate) (xs : List Vote) : Type 0 whe
   pub proofs : List Proof
   pub hold : AllHold t xs proofs
   pub third : Third vs (named proofs)
+
+-- The tests say what they are meant to. Two votes break the rules exactly if they are of one voter and one of the rules fits.
+abbrev pub BreachInWords : Type 0
+BreachInWords =
+    (t : Tree) (x y : Vote) → (breach t x y ≡ true) ↔
+    ((x .voter ≡ y .voter) × (Twice t (x .link) (y .link) ⊎ (Around t (x .link) (y .link) ⊎ Around t (y .link) (x .link))))
+
+-- A voter voted for a link exactly if that vote is there, and is named exactly if one of the proofs shows it.
+abbrev pub VotedInWords : Type 0
+VotedInWords = (xs : List Vote) (k : Link) (v : ℕ) → (voted xs k v ≡ true) ↔ (vote v k ∈ xs)
+
+abbrev pub NamedInWords : Type 0
+NamedInWords = (ps : List Proof) (v : ℕ) → (named ps v ≡ true) ↔ ((p : Proof) × (p ∈ ps) × (p .one .voter ≡ v))

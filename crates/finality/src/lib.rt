@@ -1,11 +1,10 @@
 // The theory of finality: links between pages, the votes that make them, what is settled and final, and who broke the rules.
 // The theorems stand on the contracts of functions that do nothing; what they say is in specs/.
-ghost use mathlib.Core.Path.{_≡_};
-ghost use Rattle.finality.specs.Votes.{quorum};
 
 mod book;
 mod conduct;
 mod growth;
+mod rules;
 mod safety;
 
 pub use book::added_page_leaves_the_rest;
@@ -18,6 +17,8 @@ pub use conduct::keepers_are_never_named;
 pub use conduct::signed_votes_break_no_rule;
 pub use growth::nothing_is_unsettled;
 pub use growth::settled_pages_carry_over;
+pub use rules::is_quorum;
+pub use rules::tests_are_the_rules;
 pub use safety::clashing_votes_breach;
 pub use safety::final_pages_apart_show_a_third;
 pub use safety::links_clash;
@@ -44,11 +45,4 @@ pub struct Vote {
 pub struct Proof {
     pub one: Vote,
     pub other: Vote,
-}
-
-// Whether a part of the weight is two thirds of the whole or more.
-pub fn is_quorum(part: u32, whole: u32) -> bool
-    ensures { λ r. ⌜ r ≡ quorum part whole ⌝ }
-{
-    2 * (whole as u64) <= 3 * (part as u64)
 }
