@@ -2,7 +2,7 @@
 -- Assumes nothing.
 use mathlib.Core.Path.{_≡_, refl, sym, ap, subst, _∙_}
 use mathlib.Core.Logic.{_⊎_, inl, inr, ⊎-elim}
-use mathlib.Core.Bool.{true, false}
+use mathlib.Core.Bool.{true, false, _&&_, and-assoc, and-true}
 use mathlib.Core.List.{List, [], _∷_, List·Memᴰ·cases-cons, List·Memᴰ·not-nil}
 use Prim.Native.Nat.{ℕ}
 use native.Mathlib.Omega.{arith}
@@ -14,8 +14,8 @@ use Rattle.finality.specs.declared.Vote.{Vote}
 use Rattle.finality.specs.Tree.{Tree}
 use Rattle.finality.specs.Links.{clash}
 use Rattle.finality.specs.Votes.{AllHold, _∈_, breach, named}
-use Rattle.finality.specs.Guard.{after, bare, follows, rising, risingFrom, signs}
-use Rattle.finality.specs.Conduct.{Clean}
+use Rattle.finality.specs.Guard.{after, bare, follows, guardOf, lets, rising, risingFrom, signs, sourceHeight, targetHeight}
+use Rattle.finality.specs.Conduct.{Clean, SignsNext}
 use Rattle.finality.proofs.Cast.{named-shown}
 use Rattle.finality.proofs.Breaches.{Before, refuted, after-free, before-free, same-free}
 
@@ -94,3 +94,11 @@ module _ (t : Tree) where
         where
           own : eqb (x .voter) (y .voter) ≡ true → breach t x y ≡ false
           own o = signed-is-clean ss s x y (all x m e) (all y n (sym (eqb-true (x .voter) (y .voter) o) ∙ e))
+
+pub signs-next : SignsNext
+unfolding signs guardOf
+signs-next t g [] x = and-true _
+signs-next t g (y ∷ ys) x =
+    let first = lets g (sourceHeight t y) (targetHeight t y) in
+    let next = lets (guardOf t (after t y) ys) (sourceHeight t x) (targetHeight t x) in
+    ap (λ b. first && b) (signs-next t (after t y) ys x) ∙ sym (and-assoc first (signs t (after t y) ys) next)

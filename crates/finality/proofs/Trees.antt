@@ -17,7 +17,7 @@ module _ (t : Tree) where
   right-under i e = down i (self (sym e))
 
   -- the two ways to lie under a page
-  under-to : {a b : ℕ} → Under t a b → (a ≡ b) ⊎ ((1 ≤ b) × Under t a (t .parent b))
+  pub under-to : {a b : ℕ} → Under t a b → (a ≡ b) ⊎ ((1 ≤ b) × Under t a (t .parent b))
   under-to (self e) = inl e
   under-to (down i h) = inr (i, h)
 

@@ -1,7 +1,7 @@
 -- Those who keep the rules: they are never named, and never cornered.
 -- Assumes nothing.
 use mathlib.Core.Path.{_≡_}
-use mathlib.Core.Bool.{Bool, true, false}
+use mathlib.Core.Bool.{Bool, true, false, _&&_}
 use mathlib.Core.List.{List, [], _∷_, _++_}
 use Prim.Native.Nat.{ℕ, _<_, _≤_}
 use Rattle.finality.specs.declared.Link.{Link}
@@ -10,7 +10,7 @@ use Rattle.finality.specs.declared.Vote.{Vote}
 use Rattle.finality.specs.Tree.{Grown, Tree, Under}
 use Rattle.finality.specs.Links.{link}
 use Rattle.finality.specs.Votes.{AllHold, Electorate, Final, Settled, _∈_, breach, each, named, quorum, total, vote, weightIn}
-use Rattle.finality.specs.Guard.{bare, guardOf, lets, rising, signs}
+use Rattle.finality.specs.Guard.{Guard, bare, guardOf, lets, rising, signs, sourceHeight, targetHeight}
 
 -- no two of the votes break the rules
 abbrev pub Clean : Tree → List Vote → Type 0
@@ -23,6 +23,12 @@ RisingIsClean = (t : Tree) (xs : List Vote) → rising t xs ≡ true → Clean t
 -- So votes that a guard let through break none.
 abbrev pub SignedIsClean : Type 0
 SignedIsClean = (t : Tree) (xs : List Vote) → signs t bare xs ≡ true → Clean t xs
+
+-- And a further vote joins them exactly if the guard that signed them lets it through.
+abbrev pub SignsNext : Type 0
+SignsNext =
+    (t : Tree) (g : Guard) (xs : List Vote) (x : Vote) →
+    signs t g (xs ++ x ∷ []) ≡ (signs t g xs && lets (guardOf t g xs) (sourceHeight t x) (targetHeight t x))
 
 -- A voter without a breach is named in no list of proofs that hold.
 abbrev pub CleanNotNamed : Type 0
