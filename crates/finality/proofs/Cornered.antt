@@ -70,7 +70,8 @@ module _ (t : Tree) where
           clear t x y (after-free t (x .link) (y .link) (subst (Before t (y .link)) (sym (new p)) (h y q)))
       by-place (inr p) (inr q) = clear t x y (same-free t (x .link) (y .link) (new p ∙ sym (new q)))
 
-  module _ (vs : Electorate) (xs : List Vote) (h : ℕ → Bool) (signed : ℕ → List Vote) (c : Keepers t vs xs h signed) (k : Link) where
+  module _ (vs : Electorate) (xs : List Vote) (h : ℕ → Bool) (signed : ℕ → List Vote) (c : Keepers t vs xs h signed)
+      (k : Link) where
     more : (a : ℕ) → Settled t vs xs a → Settled t vs (cast vs h k xs) a
     more a = more-votes t vs xs (cast vs h k xs) (λ x m. Memᴰ·append-right (ballots vs h k) m) a .0
 

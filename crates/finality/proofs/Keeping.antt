@@ -36,7 +36,8 @@ module _ (t : Tree) where
 
   -- of two rising votes one is the other, or comes before it
   by-place : (ys : List Vote) (z x y : Vote) → risingFrom t z ys ≡ true →
-      (x ∈ ys → y ∈ ys → clash t (x .link) (y .link) ≡ false) → (x ≡ z) ⊎ (x ∈ ys) → (y ≡ z) ⊎ (y ∈ ys) → clash t (x .link) (y .link) ≡ false
+      (x ∈ ys → y ∈ ys → clash t (x .link) (y .link) ≡ false) → (x ≡ z) ⊎ (x ∈ ys) → (y ≡ z) ⊎ (y ∈ ys) →
+      clash t (x .link) (y .link) ≡ false
   by-place ys z x y r rest (inl e) (inl f) = same-free t (x .link) (y .link) (ap (λ w. w .link) (e ∙ sym f))
   by-place ys z x y r rest (inl e) (inr n) =
       before-free t (x .link) (y .link) (subst (λ w. Before t (w .link) (y .link)) (sym e) (first-before ys z y r n))

@@ -11,3 +11,4 @@ pub mod Keeping
 pub mod Cornered
 pub mod Books
 pub mod Marks
+pub mod Histories

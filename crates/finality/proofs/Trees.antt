@@ -29,6 +29,9 @@ module _ (t : Tree) where
     under-first (suc n) (suc b) h =
         down (omega arith) (under-first n (t .parent (suc b)) (omega (arith, g .up (suc b) (omega arith))))
 
+    pub first-under : (b : ℕ) → Under t 0 b
+    first-under b = under-first (t .height b) b (le-refl (t .height b))
+
     -- a page of height 0 is page 0
     pub lowest : (a : ℕ) → t .height a ≡ 0 → a ≡ 0
     lowest zero e = refl
@@ -41,7 +44,7 @@ module _ (t : Tree) where
         first : t .height a ≤ 0 → Under t a b
         first h =
             let e : a ≡ 0 = lowest a (omega arith) in
-            subst (λ x. Under t x b) (sym e) (under-first (t .height b) b (le-refl (t .height b)))
+            subst (λ x. Under t x b) (sym e) (first-under b)
 
     -- whether a lies under b is found by at most n steps down
     under-within : (n a b : ℕ) → t .height b ≤ n → Under t a b ⊎ (Under t a b → ⊥)

@@ -6,3 +6,4 @@ pub mod Conduct
 pub mod Book
 pub mod Growth
 pub mod Safety
+pub mod Needed

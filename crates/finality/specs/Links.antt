@@ -20,12 +20,12 @@ pub record Climbs (t : Tree) (k : Link) : Type 0 where
   pub under : Under t (k .source) (k .target)
   pub higher : t .height (k .source) < t .height (k .target)
 
--- Page 0 is settled, and so is the target of a link up from a settled page under it.
+-- Settled (the literature says justified): page 0, and the target of every link up from a settled page under it.
 pub data SettledBy (t : Tree) (L : Link → Type 0) : ℕ → Type 0 where
   first : {b : ℕ} → b ≡ 0 → SettledBy t L b
   next : {b : ℕ} (a : ℕ) → SettledBy t L a → Under t a b → t .height a < t .height b → L (link a b) → SettledBy t L b
 
--- A settled page is final if there is a link from it to a page right on top of it.
+-- Final (the literature says finalized): a settled page with a link from it to a page right on top of it.
 pub record FinalBy (t : Tree) (L : Link → Type 0) (a : ℕ) : Type 0 where
   pub settled : SettledBy t L a
   pub top : ℕ

@@ -70,7 +70,7 @@ Settled t vs xs a = SettledBy t (Passing (linked vs xs)) a
 abbrev pub Final : Tree → Electorate → List Vote → ℕ → Type 0
 Final t vs xs a = FinalBy t (Passing (linked vs xs)) a
 
--- two votes of one voter for links that clash
+-- a breach of the rules: two votes of one voter for links that clash
 abbrev pub breach : Tree → Vote → Vote → Bool
 breach t x y = eqb (x .voter) (y .voter) && clash t (x .link) (y .link)
 

@@ -22,6 +22,7 @@ pub use rules::tests_are_the_rules;
 pub use safety::clashing_votes_breach;
 pub use safety::final_pages_apart_show_a_third;
 pub use safety::links_clash;
+pub use safety::nothing_can_be_spared;
 pub use safety::one_settled_page_a_height;
 pub use safety::quorums_share_voters;
 pub use safety::settled_pages_lie_on_final_ones;

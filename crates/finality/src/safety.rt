@@ -1,4 +1,5 @@
 // Whatever anybody voted: two final pages apart show who broke the rules.
+ghost use Rattle.finality.specs.Needed.{AllNeeded};
 ghost use Rattle.finality.specs.Safety.{AllNamed, BothBreach, ClashWeighs, Crossed, FinalApart, FinalApartBy};
 ghost use Rattle.finality.specs.Safety.{LinksClash, OnTop, OneAHeight, SharedThird, SharedWeight};
 
@@ -30,4 +31,9 @@ pub fn settled_pages_lie_on_final_ones()
 // Two final pages, neither under the other, show a third, and whoever names all that broke the rules names one.
 pub fn final_pages_apart_show_a_third()
     ensures { λ _. ⌜ FinalApart × FinalApartBy × AllNamed ⌝ }
+{}
+
+// Neither two thirds nor either of the rules can be spared: there are histories that show it.
+pub fn nothing_can_be_spared()
+    ensures { λ _. ⌜ AllNeeded ⌝ }
 {}
