@@ -11,11 +11,15 @@ use lib.ListN.{length, getD}
 use Rattle.std.proofs.shelf.Lists.{getD-append-left, getD-past, getD-push, length-push}
 use Rattle.std.proofs.shelf.Tests.{cases-lt, lt-ltb}
 use Rattle.finality.specs.declared.Link.{Link}
+use Rattle.finality.specs.declared.Vote.{Vote}
 use Rattle.finality.specs.Tree.{Grown, Tree, Under, self, down}
-use Rattle.finality.specs.Links.{Climbs, Passing, first, next, link}
+use Rattle.finality.specs.Links.{Climbs, Passing, SettledBy, first, next, link}
+use Rattle.finality.specs.Votes.{Electorate, linked, total, vote}
 use Rattle.finality.specs.Growth.{Carried, Extends}
-use Rattle.finality.specs.Book.{Book, BookGrows, NonePastEnd, PageAdded, Unmoved, treeOf}
+use Rattle.finality.specs.Book.{Book, BookGrows, NoVotesPastEnd, NonePastEnd, PageAdded, Unmoved, VotesUnmoved, Within, heightAdded}
+use Rattle.finality.specs.Book.{treeOf}
 use Rattle.finality.proofs.Carries.{extends-back, extends-carried, final-carried, settled-carried, under-carried}
+use Rattle.finality.proofs.Cast.{linked-cast}
 
 module _ (ps hs : List ℕ) (bk : Book ps hs) where
   pub book-grown : Grown (treeOf ps hs)
@@ -28,7 +32,7 @@ module _ (ps hs : List ℕ) (bk : Book ps hs) where
           let q = getD-past hs b 1 (omega arith) in
           omega arith
 
-  -- no page has a lower number than one under it
+  -- no page has a smaller number than one under it
   pub under-le : {a b : ℕ} → Under (treeOf ps hs) a b → b < length ps → a ≤ b
   under-le (self e) h = omega arith
   under-le (down {b} i u) h = let l = bk .below b i h in let r = under-le u (omega arith) in omega arith
@@ -48,25 +52,35 @@ module _ (ps hs : List ℕ) (bk : Book ps hs) where
 pub book-grows : BookGrows
 book-grows ps hs bk = (book-grown ps hs bk, λ a b. under-le ps hs bk)
 
-pub none-past-end : NonePastEnd
-none-past-end ps hs bk l within a (first e) = omega arith
-none-past-end ps hs bk l within b (next a s u r h) = within (link a b) h
+-- where no link leads past the first n pages, nothing is settled there
+pub settled-within : (t : Tree) (n : ℕ) → 1 ≤ n → (L : Link → Type 0) → ((k : Link) → L k → k .target < n) → {a : ℕ} →
+    SettledBy t L a → a < n
+settled-within t n some L within (first e) = omega arith
+settled-within t n some L within (next {b} a s up l) = within (link a b) l
 
-pub extends-unmoved :
-    (t u : Tree) (n : ℕ) → Extends t u n → (l : Link → Bool) → ((k : Link) → l k ≡ true → k .target < n) → Unmoved t u n l
-extends-unmoved t u n e l within =
+-- nor does a link lead there that is made by votes for those pages
+pub made-within : (n : ℕ) (vs : Electorate) (xs : List Vote) → 1 ≤ total vs → Within n xs → (k : Link) → linked vs xs k ≡ true →
+    k .target < n
+made-within n vs xs some within k e = let x = linked-cast vs xs k some e in within (vote (x .0) k) (x .1)
+
+pub none-past-end : NonePastEnd
+none-past-end ps hs bk l within a = settled-within (treeOf ps hs) (length ps) (bk .some) (Passing l) within
+
+pub no-votes-past-end : NoVotesPastEnd
+no-votes-past-end ps hs bk vs some xs within =
+    none-past-end ps hs bk (linked vs xs) (made-within (length ps) vs xs some within)
+
+pub extends-unmoved : (t u : Tree) (n : ℕ) → Extends t u n → (L : Link → Type 0) → ((k : Link) → L k → k .target < n) →
+    Unmoved t u n L
+extends-unmoved t u n e L within =
     let page : ℕ → Bool = λ b. ltb b n in
     let f : ℕ → ℕ = λ b. b in
     let there : Carried t u page f = extends-carried t u n e in
     let back : Carried u t page f = extends-carried u t n (extends-back t u n e) in
-    let sent : (k : Link) → l k ≡ true → (page (k .target) ≡ true) × (l k ≡ true) = λ k h. (lt-ltb (k .target) n (within k h), h) in
-    let L : Link → Type 0 = Passing l in
+    let sent : (k : Link) → L k → (page (k .target) ≡ true) × L k = λ k h. (lt-ltb (k .target) n (within k h), h) in
     record {
       under =
-          λ a b h. (
-            λ v. under-carried t u page f there v (lt-ltb b n h),
-            λ v. under-carried u t page f back v (lt-ltb b n h),
-          );
+          λ a b h. (λ v. under-carried t u page f there v (lt-ltb b n h), λ v. under-carried u t page f back v (lt-ltb b n h));
       settled = λ a. (settled-carried t u page f there L L sent, settled-carried u t page f back L L sent);
       final = λ a. (final-carried t u page f there L L sent, final-carried u t page f back L L sent);
     }
@@ -77,7 +91,7 @@ module _ (ps hs : List ℕ) (bk : Book ps hs) (p : ℕ) (low : p < length ps) wh
   parents = ps ++ p ∷ []
 
   abbrev heights : List ℕ
-  heights = hs ++ (getD hs p 1 + 1) ∷ []
+  heights = heightAdded hs p
 
   pub added-extends : Extends (treeOf ps hs) (treeOf parents heights) (length ps)
   added-extends =
@@ -119,8 +133,10 @@ module _ (ps hs : List ℕ) (bk : Book ps hs) (p : ℕ) (low : p < length ps) wh
           omega arith
 
 pub page-added : PageAdded
-page-added ps hs bk p low = (
-  added-book ps hs bk p low,
-  extends-unmoved (treeOf ps hs) (treeOf (parents ps hs bk p low) (heights ps hs bk p low)) (length ps)
-      (added-extends ps hs bk p low),
-)
+page-added ps hs bk p low =
+    (added-book ps hs bk p low,
+    λ l. extends-unmoved (treeOf ps hs) (treeOf (ps ++ p ∷ []) (heightAdded hs p)) (length ps) (added-extends ps hs bk p low) (Passing l))
+
+pub votes-unmoved : VotesUnmoved
+votes-unmoved ps hs bk p low vs some xs within =
+    page-added ps hs bk p low .1 (linked vs xs) (made-within (length ps) vs xs some within)

@@ -8,8 +8,8 @@ use lib.Dec.{ltb}
 use Rattle.std.proofs.shelf.Tests.{lt-ltb, ltb-true}
 use Rattle.finality.specs.declared.Link.{Link}
 use Rattle.finality.specs.Tree.{Tree, Under, self, down}
-use Rattle.finality.specs.Links.{Climbs, FinalBy, SettledBy, first, next, link}
-use Rattle.finality.specs.Growth.{Carried, Extends, moved}
+use Rattle.finality.specs.Links.{Climbs, FinalBy, Passing, SettledBy, first, next, link}
+use Rattle.finality.specs.Growth.{Carried, Carries, Extends, moved}
 
 module _ (t u : Tree) (page : ℕ → Bool) (f : ℕ → ℕ) (c : Carried t u page f) where
   -- a page under a page is one
@@ -25,12 +25,11 @@ module _ (t u : Tree) (page : ℕ → Bool) (f : ℕ → ℕ) (c : Carried t u p
   module _ (L M : Link → Type 0) (sent : (k : Link) → L k → (page (k .target) ≡ true) × M (moved f k)) where
     pub settled-carried : {a : ℕ} → SettledBy t L a → SettledBy u M (f a)
     settled-carried (first e) = first (ap f e ∙ c .first)
-    settled-carried (next {b} a s h r l) =
+    settled-carried (next {b} a s up l) =
         let p : page b ≡ true = sent (link a b) l .0 in
-        let q : page a ≡ true = page-under h p in
-        let ha = c .height a q in
+        let ha = c .height a (page-under (up .under) p) in
         let hb = c .height b p in
-        next (f a) (settled-carried s) (under-carried h p) (omega arith) (sent (link a b) l .1)
+        next (f a) (settled-carried s) (record { under = under-carried (up .under) p; higher = omega arith }) (sent (link a b) l .1)
 
     pub final-carried : {a : ℕ} → FinalBy t L a → FinalBy u M (f a)
     final-carried {a} d =
@@ -43,12 +42,15 @@ module _ (t u : Tree) (page : ℕ → Bool) (f : ℕ → ℕ) (c : Carried t u p
           linked = sent (link a (d .top)) (d .linked) .1;
         }
 
+pub carries : Carries
+carries t u page f c l m sent a =
+    (settled-carried t u page f c (Passing l) (Passing m) sent, final-carried t u page f c (Passing l) (Passing m) sent)
+
 -- what is settled stays so with more links up
 pub settled-more :
     (t : Tree) (L M : Link → Type 0) → ((k : Link) → Climbs t k → L k → M k) → {a : ℕ} → SettledBy t L a → SettledBy t M a
 settled-more t L M more (first e) = first e
-settled-more t L M more (next {b} a s h r l) =
-    next a (settled-more t L M more s) h r (more (link a b) (record { under = h; higher = r }) l)
+settled-more t L M more (next {b} a s up l) = next a (settled-more t L M more s) up (more (link a b) up l)
 
 -- trees that agree on the first n pages, of which each lies on one of them
 module _ (t u : Tree) (n : ℕ) (e : Extends t u n) where

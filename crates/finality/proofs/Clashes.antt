@@ -18,7 +18,7 @@ module _ (t : Tree) (g : Grown t) (L : Link → Type 0) where
   -- the first link on the way to b that ends as high as a or higher
   pub crossing : {a b : ℕ} → SettledBy t L b → 0 < t .height a → t .height a ≤ t .height b → Crossing t L a b
   crossing {a} (first {b} e) low high = absurd (omega (arith, ap (t .height) e, g .first))
-  crossing {a} (next {b} s p h r l) low high =
+  crossing {a} (next {b} s p up l) low high =
       ⊎-elim here (λ above. further (crossing p low above)) (cases-lt (t .height s) (t .height a))
     where
       here : t .height s < t .height a → Crossing t L a b
@@ -26,7 +26,7 @@ module _ (t : Tree) (g : Grown t) (L : Link → Type 0) where
           record {
             step = link s b;
             made = l;
-            climbs = record { under = h; higher = r };
+            climbs = up;
             settled = p;
             starts = below;
             ends = high;
@@ -42,7 +42,7 @@ module _ (t : Tree) (g : Grown t) (L : Link → Type 0) where
             settled = c .settled;
             starts = c .starts;
             ends = c .ends;
-            under = under-trans t (c .under) h;
+            under = under-trans t (c .under) (up .under);
           }
 
   -- how it clashes, by where it ends: as high as a, as high as the page d right on top of a, or higher
@@ -85,7 +85,7 @@ module _ (t : Tree) (g : Grown t) (L : Link → Type 0) where
 
   into : {a : ℕ} → SettledBy t L a → 0 < t .height a → Into a
   into (first {b} e) low = absurd (omega (arith, ap (t .height) e, g .first))
-  into (next {b} s p h r l) low = record { from = s; made = l; rises = r }
+  into (next {b} s p up l) low = record { from = s; made = l; rises = up .higher }
 
   pub level : (a b : ℕ) → SettledBy t L a → SettledBy t L b → (a ≡ b → ⊥) → t .height a ≡ t .height b →
       ClashAt t L (t .height a)

@@ -138,4 +138,6 @@ never-cornered t g vs xs h signed keepers a s top c d on up i right bound =
     kept = cast-keeps t vs xs h signed keepers (link a c) s high
 
     settled : Settled t vs (cast vs h (link a c) xs) c
-    settled = next a (more t vs xs h signed keepers (link a c) a s) on up (cast-links t vs xs h signed keepers (link a c))
+    settled =
+        next a (more t vs xs h signed keepers (link a c) a s) (record { under = on; higher = up })
+        (cast-links t vs xs h signed keepers (link a c))

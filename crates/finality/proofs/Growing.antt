@@ -8,13 +8,9 @@ use Rattle.std.proofs.shelf.Tests.{lt-ltb}
 use Rattle.finality.specs.declared.Link.{Link}
 use Rattle.finality.specs.Links.{Passing}
 use Rattle.finality.specs.Votes.{linked, vote}
-use Rattle.finality.specs.Growth.{Carried, Carries, MorePages, MoreVotes, VotesCarry, moved}
-use Rattle.finality.proofs.Carries.{extends-carried, final-carried, settled-carried}
+use Rattle.finality.specs.Growth.{Carried, MorePages, MoreVotes, VotesCarry, moved}
+use Rattle.finality.proofs.Carries.{carries, extends-carried}
 use Rattle.finality.proofs.Cast.{linked-cast, linked-moved}
-
-pub carries : Carries
-carries t u page f c l m sent a =
-    (settled-carried t u page f c (Passing l) (Passing m) sent, final-carried t u page f c (Passing l) (Passing m) sent)
 
 pub votes-carry : VotesCarry
 votes-carry t u page f c vs some xs ys sent a =

@@ -6,9 +6,9 @@ use mathlib.Core.Bool.{Bool, true, false, not, _&&_}
 use mathlib.Core.List.{List, [], _∷_, _++_, List·Memᴰ·cases-cons, List·Memᴰ·not-nil}
 use Prim.Native.Nat.{ℕ, _+_}
 use native.Mathlib.Omega.{arith}
-use lib.Dec.{T, leb, lit<, lit≤, ltb}
+use lib.Dec.{leb, ltb}
 use lib.ListN.{length, getD}
-use Rattle.std.proofs.shelf.Tests.{and-parts, not-true}
+use Rattle.std.proofs.shelf.Tests.{and-parts, leb-true, ltb-true, not-true}
 use Rattle.finality.specs.declared.Vote.{Vote}
 use Rattle.finality.specs.Tree.{Apart, Tree, Under}
 use Rattle.finality.specs.Links.{first, link, next}
@@ -63,19 +63,19 @@ alone =
       book =
           record {
             same = refl;
-            some = lit≤ tt;
+            some = leb-true _ _ refl;
             first = refl;
             below = λ b i h. absurd (omega arith);
             up = λ b i h. absurd (omega arith);
           };
     }
 
-abbrev add : (b : Pages) (p : ℕ) → T (ltb p (length (b .parents))) → Pages
+abbrev add : (b : Pages) (p : ℕ) → ltb p (length (b .parents)) ≡ true → Pages
 add b p low =
     record {
       parents = b .parents ++ p ∷ [];
       heights = b .heights ++ (getD (b .heights) p 1 + 1) ∷ [];
-      book = added-book (b .parents) (b .heights) (b .book) p (lit< low);
+      book = added-book (b .parents) (b .heights) (b .book) p (ltb-true _ _ low);
     }
 
 abbrev tree : Pages → Tree
@@ -87,7 +87,7 @@ four = record { count = 4; weight = λ v. 1 }
 
 -- 1 and 2 on 0, 3 on 1, 4 on 2
 abbrev fork : Pages
-fork = add (add (add (add alone 0 tt) 0 tt) 1 tt) 2 tt
+fork = add (add (add (add alone 0 refl) 0 refl) 1 refl) 2 refl
 
 abbrev fork-votes : List Vote
 fork-votes =
@@ -96,7 +96,7 @@ fork-votes =
 
 -- 1, 2, 3, 4 each on the one before, and 5, 6, 7, 8 on 0 and each on the one before
 abbrev branches : Pages
-branches = add (add (add (add (add (add (add (add alone 0 tt) 1 tt) 2 tt) 3 tt) 0 tt) 5 tt) 6 tt) 7 tt
+branches = add (add (add (add (add (add (add (add alone 0 refl) 1 refl) 2 refl) 3 refl) 0 refl) 5 refl) 6 refl) 7 refl
 
 abbrev branches-votes : List Vote
 branches-votes =
@@ -104,14 +104,16 @@ branches-votes =
     vote 1 (link 0 7) ∷ vote 2 (link 0 7) ∷ vote 3 (link 0 7) ∷ vote 1 (link 7 8) ∷ vote 2 (link 7 8) ∷ vote 3 (link 7 8) ∷ []
 
 -- a page is final by a link from page 0 and one to a page right on top
-final-by : (b : Pages) (xs : List Vote) (a d : ℕ) → T (ltb (tree b .height 0) (tree b .height a)) →
-    linked four xs (link 0 a) ≡ true → T (leb 1 d) → tree b .parent d ≡ a → linked four xs (link a d) ≡ true →
+final-by : (b : Pages) (xs : List Vote) (a d : ℕ) → ltb (tree b .height 0) (tree b .height a) ≡ true →
+    linked four xs (link 0 a) ≡ true → leb 1 d ≡ true → tree b .parent d ≡ a → linked four xs (link a d) ≡ true →
     Final (tree b) four xs a
 final-by b xs a d up in-link later on out-link =
     record {
-      settled = next 0 (first refl) (first-under (tree b) (book-grown (b .parents) (b .heights) (b .book)) a) (lit< up) in-link;
+      settled =
+          next 0 (first refl)
+          (record { under = first-under (tree b) (book-grown (b .parents) (b .heights) (b .book)) a; higher = ltb-true _ _ up }) in-link;
       top = d;
-      later = lit≤ later;
+      later = leb-true _ _ later;
       on = on;
       linked = out-link;
     }
@@ -146,7 +148,7 @@ history rule b xs one other f g n e =
       tree = tree b;
       grown = book-grown (b .parents) (b .heights) (b .book);
       voters = four;
-      some = lit≤ tt;
+      some = leb-true _ _ refl;
       votes = xs;
       one = one;
       other = other;
@@ -158,14 +160,14 @@ history rule b xs one other f g n e =
 without-first : Without firstRule
 unfolding weighed voted every none
 without-first =
-    history firstRule branches branches-votes 1 7 (final-by branches branches-votes 1 2 tt refl tt refl refl)
-    (final-by branches branches-votes 7 8 tt refl tt refl refl) branches-apart refl
+    history firstRule branches branches-votes 1 7 (final-by branches branches-votes 1 2 refl refl refl refl refl)
+    (final-by branches branches-votes 7 8 refl refl refl refl refl) branches-apart refl
 
 without-second : Without secondRule
 unfolding weighed voted every none
 without-second =
-    history secondRule fork fork-votes 1 2 (final-by fork fork-votes 1 3 tt refl tt refl refl)
-    (final-by fork fork-votes 2 4 tt refl tt refl refl) fork-apart refl
+    history secondRule fork fork-votes 1 2 (final-by fork fork-votes 1 3 refl refl refl refl refl)
+    (final-by fork fork-votes 2 4 refl refl refl refl refl) fork-apart refl
 
 pub all-needed : AllNeeded
 all-needed = (three-fifths, without-first, without-second)

@@ -14,10 +14,9 @@ use Rattle.finality.specs.declared.Link.{Link}
 use Rattle.finality.specs.Tree.{Tree}
 use Rattle.finality.specs.Links.{Climbs, Passing, SettledBy, first, next, link}
 use Rattle.finality.specs.Votes.{_∈_, linked, vote}
-use Rattle.finality.specs.Book.{OnePass, OnePassOfVotes, ascending, marked, marking, treeOf, unmarked}
-use Rattle.finality.proofs.Books.{climbs-lt}
+use Rattle.finality.specs.Book.{OnePass, OnePassOfVotes, ascending, firstMarked, marked, marking, treeOf}
+use Rattle.finality.proofs.Books.{climbs-lt, made-within}
 use Rattle.finality.proofs.Carries.{settled-more}
-use Rattle.finality.proofs.Cast.{linked-cast}
 
 abbrev On : List Bool → ℕ → Type 0
 On ms a = getD ms a false ≡ true
@@ -115,14 +114,14 @@ marked-all P (j ∷ ks) ms start step a h =
         place s h′ (inr e) = start b (sym (getD-set-other ms (j .target) b true false e) ∙ h′)
 
 -- at first only page 0 is marked
-pub unmarked-first : (n : ℕ) → 1 ≤ n → On (unmarked n) 0
-unmarked-first n h =
+pub first-is-marked : (n : ℕ) → 1 ≤ n → On (firstMarked n) 0
+first-is-marked n h =
     let l = length-replicate n false in
     getD-set-same (replicate n false) 0 true false (omega arith)
 
-pub unmarked-none : (n a : ℕ) → On (unmarked n) a → a ≡ 0
-unmarked-none n zero h = refl
-unmarked-none n (suc a) h =
+pub only-first-marked : (n a : ℕ) → On (firstMarked n) a → a ≡ 0
+only-first-marked n zero h = refl
+only-first-marked n (suc a) h =
     let e = getD-set-other (replicate n false) 0 (suc a) true false (omega arith) ∙ none n (suc a) in
     absurd (false≢true (sym e ∙ h))
   where
@@ -133,18 +132,18 @@ unmarked-none n (suc a) h =
 
 module _ (t : Tree) (n : ℕ) (ks : List Link) (some : 1 ≤ n) (rising : ascending 0 ks ≡ true)
     (up : (k : Link) → k ∈ ks → Climbs t k × (k .source < k .target) × (k .target < n)) where
-  pub mark-settled : (b : ℕ) → On (marked ks (unmarked n)) b → SettledBy t (λ k. k ∈ ks) b
+  pub mark-settled : (b : ℕ) → On (marked ks (firstMarked n)) b → SettledBy t (λ k. k ∈ ks) b
   mark-settled b h =
-      marked-all (SettledBy t (λ k. k ∈ ks)) ks (unmarked n) (λ a o. first (unmarked-none n a o))
-      (λ k i s. next (k .source) s (up k i .0 .under) (up k i .0 .higher) i)
+      marked-all (SettledBy t (λ k. k ∈ ks)) ks (firstMarked n) (λ a o. first (only-first-marked n a o))
+      (λ k i s. next (k .source) s (up k i .0) i)
       b h
 
-  pub settled-mark : {b : ℕ} → SettledBy t (λ k. k ∈ ks) b → On (marked ks (unmarked n)) b
+  pub settled-mark : {b : ℕ} → SettledBy t (λ k. k ∈ ks) b → On (marked ks (firstMarked n)) b
   settled-mark (first e) =
-      marked-kept ks (unmarked n) _ (subst (On (unmarked n)) (sym e) (unmarked-first n some))
-  settled-mark (next {b} a s u r i) =
+      marked-kept ks (firstMarked n) _ (subst (On (firstMarked n)) (sym e) (first-is-marked n some))
+  settled-mark (next {b} a s c i) =
       let e = length-set (replicate n false) 0 true ∙ length-replicate n false in
-      marked-next ks (unmarked n) 0 n e rising (λ k j. (up k j .1, up k j .2)) (link a b) i (settled-mark s)
+      marked-next ks (firstMarked n) 0 n e rising (λ k j. (up k j .1, up k j .2)) (link a b) i (settled-mark s)
 
 pub one-pass : OnePass
 one-pass t n ks some rising up b = (mark-settled t n ks some rising up b, λ s. settled-mark t n ks some rising up s)
@@ -161,9 +160,8 @@ one-pass-of-votes ps hs bk vs some xs within ks rising made b = (
     up : (k : Link) → k ∈ ks → Climbs t k × (k .source < k .target) × (k .target < length ps)
     up k i =
         let c = made k .0 i .0 in
-        let x = linked-cast vs xs k some (made k .0 i .1) in
-        let l : k .target < length ps = within (vote (x .0) k) (x .1) in
+        let l = made-within (length ps) vs xs some within k (made k .0 i .1) in
         (c, climbs-lt ps hs bk k c l, l)
 
-    pass : On (marked ks (unmarked (length ps))) b ↔ SettledBy t (λ k. k ∈ ks) b
+    pass : On (marked ks (firstMarked (length ps))) b ↔ SettledBy t (λ k. k ∈ ks) b
     pass = one-pass t (length ps) ks (bk .some) rising up b

@@ -48,6 +48,7 @@ unfoldable pub risingFrom : Tree → Vote → List Vote → Bool
 risingFrom t x [] = true
 risingFrom t x (y ∷ ys) = follows t x y && risingFrom t y ys
 
+-- the votes rise: each follows the one before it
 abbrev pub rising : Tree → List Vote → Bool
 rising t [] = true
 rising t (x ∷ xs) = risingFrom t x xs

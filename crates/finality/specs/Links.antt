@@ -1,5 +1,5 @@
 -- Links from a page to a higher one on top of it, what they settle and make final, and which two clash. What makes a link is left
--- open: these hold of any relation.
+-- open: L may be any relation.
 -- Assumes nothing.
 use mathlib.Core.Path.{_≡_}
 use mathlib.Core.Bool.{Bool, true, not, _&&_, _||_}
@@ -23,7 +23,7 @@ pub record Climbs (t : Tree) (k : Link) : Type 0 where
 -- Settled (the literature says justified): page 0, and the target of every link up from a settled page under it.
 pub data SettledBy (t : Tree) (L : Link → Type 0) : ℕ → Type 0 where
   first : {b : ℕ} → b ≡ 0 → SettledBy t L b
-  next : {b : ℕ} (a : ℕ) → SettledBy t L a → Under t a b → t .height a < t .height b → L (link a b) → SettledBy t L b
+  next : {b : ℕ} (a : ℕ) → SettledBy t L a → Climbs t (link a b) → L (link a b) → SettledBy t L b
 
 -- Final (the literature says finalized): a settled page with a link from it to a page right on top of it.
 pub record FinalBy (t : Tree) (L : Link → Type 0) (a : ℕ) : Type 0 where
