@@ -6,10 +6,11 @@ use mathlib.Core.Bool.{Bool, true, false, not, _||_}
 use Prim.Native.Nat.{_<_, _≤_}
 use native.Mathlib.Omega.{arith}
 use Rattle.std.proofs.shelf.Tests.{and-from, and-parts, eq-eqb, eqb-false, eqb-true, lt-ltb, ltb-true}
-use Rattle.std.proofs.shelf.Tests.{ne-eqb, not-true, or-cases, or-left, or-right}
+use Rattle.std.proofs.shelf.Tests.{le-leb, leb-true, ne-eqb, not-true, or-cases, or-left, or-right}
 use Rattle.finality.specs.declared.Link.{Link}
 use Rattle.finality.specs.Tree.{Tree}
-use Rattle.finality.specs.Votes.{BreachInWords}
+use Rattle.finality.specs.Votes.{BreachInWords, QuorumInWords}
+use Rattle.finality.specs.Guard.{LetsInWords, lets}
 use Rattle.finality.specs.Links.{Around, Twice, around, clash, twice}
 
 -- a test that can't hold fails
@@ -83,3 +84,19 @@ breach-in-words t x y = (
   λ e. let p = and-parts _ _ e in (eqb-true _ _ (p .0), clash-to t (x .link) (y .link) (p .1)),
   λ w. and-from _ _ (eq-eqb _ _ (w .0)) (clash-from t (x .link) (y .link) (w .1)),
 )
+
+pub quorum-in-words : QuorumInWords
+quorum-in-words part whole = (leb-true _ _, le-leb _ _)
+
+pub lets-in-words : LetsInWords
+lets-in-words g s t = (there, back)
+  where
+    there : lets g s t ≡ true → (s < t) × ((g .fresh ≡ true) ⊎ ((g .source ≤ s) × (g .target < t)))
+    there e =
+        let p = and-parts _ _ e in
+        (ltb-true _ _ (p .0), ⊎-elim inl (λ h. let q = and-parts _ _ h in inr (leb-true _ _ (q .0), ltb-true _ _ (q .1))) (or-cases _ _ (p .1)))
+
+    back : (s < t) × ((g .fresh ≡ true) ⊎ ((g .source ≤ s) × (g .target < t))) → lets g s t ≡ true
+    back w =
+        and-from _ _ (lt-ltb _ _ (w .0))
+        (⊎-elim (or-left (g .fresh) _) (λ p. or-right (g .fresh) _ (and-from _ _ (le-leb _ _ (p .0)) (lt-ltb _ _ (p .1)))) (w .1))

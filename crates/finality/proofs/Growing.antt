@@ -1,13 +1,12 @@
 -- More votes and more pages.
 -- Assumes nothing.
 use mathlib.Core.Path.{_≡_, refl}
-use mathlib.Core.Bool.{Bool, true}
+use mathlib.Core.Bool.{true}
 use Prim.Native.Nat.{ℕ}
 use lib.Dec.{ltb}
 use Rattle.std.proofs.shelf.Tests.{lt-ltb}
 use Rattle.finality.specs.declared.Link.{Link}
-use Rattle.finality.specs.Links.{Passing}
-use Rattle.finality.specs.Votes.{linked, vote}
+use Rattle.finality.specs.Votes.{everyone, linked, vote}
 use Rattle.finality.specs.Growth.{Carried, MorePages, MoreVotes, VotesCarry, moved}
 use Rattle.finality.proofs.Carries.{carries, extends-carried}
 use Rattle.finality.proofs.Cast.{linked-cast, linked-moved}
@@ -23,18 +22,15 @@ votes-carry t u page f c vs some xs ys sent a =
 
 pub more-votes : MoreVotes
 more-votes t vs xs ys sent a =
-    carries t t every same all (linked vs xs) (linked vs ys) made a
+    carries t t everyone same all (linked vs xs) (linked vs ys) made a
   where
-    every : ℕ → Bool
-    every b = true
-
     same : ℕ → ℕ
     same b = b
 
-    all : Carried t t every same
+    all : Carried t t everyone same
     all = record { first = refl; lower = λ b p i. refl; later = λ b p i. i; parent = λ b p i. refl; height = λ b p. refl }
 
-    made : (k : Link) → linked vs xs k ≡ true → (every (k .target) ≡ true) × (linked vs ys (moved same k) ≡ true)
+    made : (k : Link) → linked vs xs k ≡ true → (everyone (k .target) ≡ true) × (linked vs ys (moved same k) ≡ true)
     made k e = (refl, linked-moved same vs xs ys sent k e)
 
 pub more-pages : MorePages

@@ -1,12 +1,13 @@
--- Histories in which two pages apart are final and one of the rules was kept.
+-- Voters who share too little, and histories in which two pages apart are final and one of the rules was kept.
 -- Assumes nothing.
-use mathlib.Core.Path.{_≡_, refl, ap, _∙_}
+use mathlib.Core.Path.{_≡_, refl, sym, ap, subst, _∙_}
 use mathlib.Core.Logic.{⊎-elim}
-use mathlib.Core.Bool.{Bool, true, false, not, _&&_}
+use mathlib.Core.Bool.{Bool, true, false, not, _&&_, _||_}
 use mathlib.Core.List.{List, [], _∷_, _++_, List·Memᴰ·cases-cons, List·Memᴰ·not-nil}
-use Prim.Native.Nat.{ℕ, _+_}
+use Prim.Native.Nat.{ℕ, zero, suc, _+_, _*_, _<_, _≤_}
+use native.Mathlib.Nat.{mul-assoc, mul-comm, mul-le-mul-left}
 use native.Mathlib.Omega.{arith}
-use lib.Dec.{leb, ltb}
+use lib.Dec.{eqb, leb, ltb}
 use lib.ListN.{length, getD}
 use Rattle.std.proofs.shelf.Tests.{and-parts, leb-true, ltb-true, not-true}
 use Rattle.finality.specs.declared.Vote.{Vote}
@@ -14,18 +15,33 @@ use Rattle.finality.specs.Tree.{Apart, Tree, Under}
 use Rattle.finality.specs.Links.{first, link, next}
 use Rattle.finality.specs.Votes.{Electorate, Final, _∈_, linked, vote, voted, weighed}
 use Rattle.finality.specs.Book.{Book, treeOf}
-use Rattle.finality.specs.Needed.{AllNeeded, ThreeFifths, Without, firstRule, secondRule}
+use Rattle.finality.specs.Needed.{ApartKeeping, BothRulesNeeded, TwoThirdsNeeded, firstRule, secondRule}
 use Rattle.finality.proofs.Books.{added-book, book-grown}
 use Rattle.finality.proofs.Trees.{first-under, under-to}
 
-three-fifths : ThreeFifths
+-- For a share num / (m + 1) below two thirds: voters 0 and 1 weigh 2 m + 3 each and voter 2 weighs 2 m, of 6 m + 6. One set is 0 and
+-- 2, the other 1 and 2.
+abbrev weights : ℕ → ℕ → ℕ
+weights m zero = 2 * m + 3
+weights m (suc zero) = 2 * m + 3
+weights m (suc (suc n)) = 2 * m
+
+share : (num m whole part : ℕ) → 3 * num < 2 * suc m → whole ≡ suc m * 6 → part ≡ 4 * m + 3 → num * whole ≤ suc m * part
+share num m whole part h e f =
+    let i : 6 * num ≤ part = omega arith in
+    let j : suc m * (6 * num) ≤ suc m * part = mul-le-mul-left (suc m) i in
+    let k : num * whole ≡ suc m * (6 * num) = ap (λ x. num * x) e ∙ mul-comm num (suc m * 6) ∙ mul-assoc (suc m) 6 num in
+    subst (λ x. x ≤ suc m * part) (sym k) j
+
+pub two-thirds-needed : TwoThirdsNeeded
 unfolding weighed
-three-fifths =
+two-thirds-needed num zero h = absurd (omega arith)
+two-thirds-needed num (suc m) h =
     record {
-      voters = record { count = 5; weight = λ v. 1 };
-      one = λ v. ltb v 3;
-      other = λ v. leb 2 v;
-      most = refl;
+      voters = record { count = 3; weight = weights m };
+      one = λ v. eqb v 0 || eqb v 2;
+      other = λ v. eqb v 1 || eqb v 2;
+      enough = (share num m _ _ h (omega arith) (omega arith), share num m _ _ h (omega arith) (omega arith));
       few = omega arith;
     }
 
@@ -139,9 +155,9 @@ branches-apart =
       not-on t (omega arith) (not-first t (omega arith)),
     )
 
--- what such a history shows of a rule that no two of its votes break
+-- such a history, of a rule that no two of its votes break
 history : (rule : Tree → Vote → Vote → Bool) (b : Pages) (xs : List Vote) (one other : ℕ) → Final (tree b) four xs one →
-    Final (tree b) four xs other → Apart (tree b) one other → none (rule (tree b)) xs ≡ true → Without rule
+    Final (tree b) four xs other → Apart (tree b) one other → none (rule (tree b)) xs ≡ true → ApartKeeping rule
 unfolding weighed
 history rule b xs one other f g n e =
     record {
@@ -157,17 +173,17 @@ history rule b xs one other f g n e =
       kept = none-in (rule (tree b)) xs e;
     }
 
-without-first : Without firstRule
+first-kept : ApartKeeping firstRule
 unfolding weighed voted every none
-without-first =
+first-kept =
     history firstRule branches branches-votes 1 7 (final-by branches branches-votes 1 2 refl refl refl refl refl)
     (final-by branches branches-votes 7 8 refl refl refl refl refl) branches-apart refl
 
-without-second : Without secondRule
+second-kept : ApartKeeping secondRule
 unfolding weighed voted every none
-without-second =
+second-kept =
     history secondRule fork fork-votes 1 2 (final-by fork fork-votes 1 3 refl refl refl refl refl)
     (final-by fork fork-votes 2 4 refl refl refl refl refl) fork-apart refl
 
-pub all-needed : AllNeeded
-all-needed = (three-fifths, without-first, without-second)
+pub both-rules-needed : BothRulesNeeded
+both-rules-needed = (first-kept, second-kept)

@@ -1,14 +1,14 @@
 -- Votes that rise break no rule, and whoever broke none is not named.
 -- Assumes nothing.
 use mathlib.Core.Path.{_≡_, refl, sym, ap, subst, _∙_}
-use mathlib.Core.Logic.{_⊎_, inl, inr, ⊎-elim}
+use mathlib.Core.Logic.{_↔_, _⊎_, inl, inr, ⊎-elim}
 use mathlib.Core.Bool.{true, false, _&&_, and-assoc, and-true}
-use mathlib.Core.List.{List, [], _∷_, List·Memᴰ·cases-cons, List·Memᴰ·not-nil}
-use Prim.Native.Nat.{ℕ}
+use mathlib.Core.List.{List, [], _∷_, List·Memᴰ·cases-cons, List·Memᴰ·head, List·Memᴰ·not-nil, List·Memᴰ·tail}
+use Prim.Native.Nat.{ℕ, _<_}
 use native.Mathlib.Omega.{arith}
 use lib.Dec.{eqb}
 use Rattle.std.proofs.shelf.Tests.{and-from, and-left, and-parts, and-right, both-ways, cases-bool, eqb-true, leb-true}
-use Rattle.std.proofs.shelf.Tests.{ltb-true}
+use Rattle.std.proofs.shelf.Tests.{lt-ltb, ltb-true}
 use Rattle.finality.specs.declared.Proof.{Proof}
 use Rattle.finality.specs.declared.Vote.{Vote}
 use Rattle.finality.specs.Tree.{Tree}
@@ -61,20 +61,52 @@ module _ (t : Tree) where
   rising-is-clean [] r = λ x y m n. absurd (List·Memᴰ·not-nil m)
   rising-is-clean (z ∷ zs) r = λ x y m n. clear x y (rising-free zs z x y r m n)
 
-  signed-rises : (ys : List Vote) (x : Vote) → signs t (after t x) ys ≡ true → risingFrom t x ys ≡ true
-  unfolding signs risingFrom
-  signed-rises [] x e = refl
-  signed-rises (y ∷ ys) x e =
+  -- the vote goes up
+  Up : Vote → Type 0
+  Up x = sourceHeight t x < targetHeight t x
+
+  up-all : (y : Vote) (ys : List Vote) → Up y → ((x : Vote) → x ∈ ys → Up x) → (x : Vote) → x ∈ (y ∷ ys) → Up x
+  up-all y ys u us x m = ⊎-elim (λ e. subst Up (sym e) u) (us x) (List·Memᴰ·cases-cons m)
+
+  signed-rises : (x : Vote) (ys : List Vote) → signs t (after t x) ys ≡ true →
+      (risingFrom t x ys ≡ true) × ((y : Vote) → y ∈ ys → Up y)
+  unfolding signs risingFrom Up
+  signed-rises x [] e = (refl, λ y m. absurd (List·Memᴰ·not-nil m))
+  signed-rises x (y ∷ ys) e =
       let p = and-parts _ _ e in
       let q = and-parts _ _ (p .0) in
-      and-from _ _ (q .1) (signed-rises ys y (p .1))
+      let r = signed-rises y ys (p .1) in
+      (and-from _ _ (q .1) (r .0), up-all y ys (ltb-true _ _ (q .0)) (r .1))
+
+  risen-signed : (x : Vote) (ys : List Vote) → risingFrom t x ys ≡ true → ((y : Vote) → y ∈ ys → Up y) →
+      signs t (after t x) ys ≡ true
+  unfolding signs risingFrom Up
+  risen-signed x [] r u = refl
+  risen-signed x (y ∷ ys) r u =
+      let p = and-parts _ _ r in
+      and-from _ _ (and-from _ _ (lt-ltb _ _ (u y (List·Memᴰ·head refl))) (p .0))
+      (risen-signed y ys (p .1) (λ z m. u z (List·Memᴰ·tail m)))
+
+  pub signs-rising : (xs : List Vote) → (signs t bare xs ≡ true) ↔
+      ((rising t xs ≡ true) × ((x : Vote) → x ∈ xs → sourceHeight t x < targetHeight t x))
+  unfolding signs Up
+  signs-rising [] = (λ e. (refl, λ y m. absurd (List·Memᴰ·not-nil m)), λ e. refl)
+  signs-rising (x ∷ xs) = (there, back)
+    where
+      there : signs t bare (x ∷ xs) ≡ true → (risingFrom t x xs ≡ true) × ((y : Vote) → y ∈ (x ∷ xs) → Up y)
+      there e =
+          let p = and-parts _ _ e in
+          let q = and-parts _ _ (p .0) in
+          let r = signed-rises x xs (p .1) in
+          (r .0, up-all x xs (ltb-true _ _ (q .0)) (r .1))
+
+      back : (risingFrom t x xs ≡ true) × ((y : Vote) → y ∈ (x ∷ xs) → Up y) → signs t bare (x ∷ xs) ≡ true
+      back r =
+          and-from _ _ (and-from _ _ (lt-ltb _ _ (r .1 x (List·Memᴰ·head refl))) refl)
+          (risen-signed x xs (r .0) (λ y m. r .1 y (List·Memᴰ·tail m)))
 
   pub signed-is-clean : (xs : List Vote) → signs t bare xs ≡ true → Clean t xs
-  unfolding signs
-  signed-is-clean [] e = λ x y m n. absurd (List·Memᴰ·not-nil m)
-  signed-is-clean (z ∷ zs) e =
-      let p = and-parts _ _ e in
-      rising-is-clean (z ∷ zs) (signed-rises zs z (p .1))
+  signed-is-clean xs e = rising-is-clean xs (signs-rising xs .0 e .0)
 
   pub clean-not-named : (xs : List Vote) (v : ℕ) → ((x y : Vote) → x ∈ xs → y ∈ xs → x .voter ≡ v → breach t x y ≡ false) →
       (ps : List Proof) → AllHold t xs ps → named ps v ≡ false

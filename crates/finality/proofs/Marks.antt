@@ -13,7 +13,7 @@ use Rattle.std.proofs.shelf.Tests.{and-parts, cases-eq, cond-both, cond-true, f
 use Rattle.finality.specs.declared.Link.{Link}
 use Rattle.finality.specs.Tree.{Tree}
 use Rattle.finality.specs.Links.{Climbs, Passing, SettledBy, first, next, link}
-use Rattle.finality.specs.Votes.{_∈_, linked, vote}
+use Rattle.finality.specs.Votes.{_∈_, linked}
 use Rattle.finality.specs.Book.{OnePass, OnePassOfVotes, ascending, firstMarked, marked, marking, treeOf}
 use Rattle.finality.proofs.Books.{climbs-lt, made-within}
 use Rattle.finality.proofs.Carries.{settled-more}

@@ -58,7 +58,7 @@ module _ (t : Tree) (xs : List Vote) (k l : Link) (c : clash t k l ≡ true) whe
   unfolding proofs shown
   all-named n v i e = shown-named v (shown v) (in-each (both (voted xs k) (voted xs l)) shown n v i e) refl
 
--- Links that clash at a height, where each link that passes it has a quorum by the weights of vs.
+-- Links that clash at a height, where each link that spans it has a quorum by the weights of vs.
 module _ (t : Tree) (vs : Electorate) (xs : List Vote) (L : Link → Type 0) (h : ℕ)
     (quorate : (k : Link) → L k → t .height (k .source) ≤ h → h ≤ t .height (k .target) → linked vs xs k ≡ true)
     (c : ClashAt t L h) where

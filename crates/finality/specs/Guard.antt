@@ -1,8 +1,10 @@
 -- The guard of a voter's machine: which votes it lets through, by the heights of their pages.
 -- Assumes nothing.
+use mathlib.Core.Path.{_≡_}
+use mathlib.Core.Logic.{_↔_, _⊎_}
 use mathlib.Core.Bool.{Bool, true, false, _&&_, _||_}
 use mathlib.Core.List.{List, [], _∷_}
-use Prim.Native.Nat.{ℕ}
+use Prim.Native.Nat.{ℕ, _<_, _≤_}
 use lib.Dec.{leb, ltb}
 use Rattle.finality.specs.declared.Vote.{Vote}
 use Rattle.finality.specs.Tree.{Tree}
@@ -16,9 +18,14 @@ pub record Guard : Type 0 where
 abbrev pub bare : Guard
 bare = record { fresh = true; source = 0; target = 0 }
 
--- a vote from height s to height t passes: it goes up, its source isn't lower and its target is higher than the last one's
+-- the guard lets a vote from height s to height t through
 abbrev pub lets : Guard → ℕ → ℕ → Bool
 lets g s t = ltb s t && (g .fresh || (leb (g .source) s && ltb (g .target) t))
+
+-- That is what the test says: it goes up, and nothing was signed before or it rises from the last vote.
+abbrev pub LetsInWords : Type 0
+LetsInWords =
+    (g : Guard) (s t : ℕ) → (lets g s t ≡ true) ↔ ((s < t) × ((g .fresh ≡ true) ⊎ ((g .source ≤ s) × (g .target < t))))
 
 abbrev pub sourceHeight : Tree → Vote → ℕ
 sourceHeight t x = t .height (x .link .source)

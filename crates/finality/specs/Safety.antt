@@ -23,7 +23,7 @@ SharedThird =
     (vs : Electorate) (p q : ℕ → Bool) → quorum (weightIn vs p) (total vs) ≡ true → quorum (weightIn vs q) (total vs) ≡ true →
     Third vs (both p q)
 
--- a link on the way to b that starts lower than a and ends as high as a or higher
+-- a link from a settled page lower than a to one under b that is as high as a or higher
 pub record Crossing (t : Tree) (L : Link → Type 0) (a b : ℕ) : Type 0 where
   pub step : Link
   pub made : L step
@@ -33,7 +33,7 @@ pub record Crossing (t : Tree) (L : Link → Type 0) (a b : ℕ) : Type 0 where
   pub ends : t .height a ≤ t .height (step .target)
   pub under : Under t (step .target) b
 
--- Of trees alone, with d right on top of a: on the way to a settled page as high as a or higher that doesn't lie on a, some link
+-- Of trees alone, with d right on top of a: on the way to a settled page b as high as a or higher that doesn't lie on a, some link
 -- starts lower than a and clashes with every link into a, or else with the one from a to d.
 abbrev pub Crossed : Type 0
 Crossed =
@@ -41,7 +41,7 @@ Crossed =
     t .height a ≤ t .height b → (Under t a b → ⊥) → (c : Crossing t (Passing l) a b) ×
     (((r : ℕ) → twice t (c .step) (link r a) ≡ true) ⊎ (clash t (c .step) (link a d) ≡ true))
 
--- two links that clash, and both pass height h
+-- two links that clash, and both span height h: they start no higher and end no lower
 pub record ClashAt (t : Tree) (L : Link → Type 0) (h : ℕ) : Type 0 where
   pub one : Link
   pub other : Link
@@ -72,7 +72,7 @@ BothBreach =
     (t : Tree) (xs : List Vote) (k l : Link) → clash t k l ≡ true → (v : ℕ) → both (voted xs k) (voted xs l) v ≡ true →
     (vote v k ∈ xs) × (vote v l ∈ xs) × (breach t (vote v k) (vote v l) ≡ true)
 
--- So, by any weights, those who broke the rules weigh what the voters for two links that clash weigh beyond the whole.
+-- So, by any weights, those who broke the rules weigh at least what the voters for two links that clash weigh beyond the whole.
 abbrev pub ClashWeighs : Type 0
 ClashWeighs =
     (t : Tree) (xs : List Vote) (k l : Link) → clash t k l ≡ true → (n : ℕ) (w : ℕ → ℕ) (p : ℕ → Bool) → NamesAll t xs p →
@@ -96,7 +96,7 @@ FinalApart =
     (t : Tree) → Grown t → (vs : Electorate) (xs : List Vote) (a b : ℕ) → Final t vs xs a → Final t vs xs b → Apart t a b →
     ThirdShown t vs xs
 
--- The same whatever makes a link, if each one that passes the height of the lower of the two has two thirds by the weights of vs.
+-- The same whatever makes a link, if each one that spans the height of the lower of the two has two thirds by the weights of vs.
 abbrev pub FinalApartBy : Type 0
 FinalApartBy =
     (t : Tree) → Grown t → (l : Link → Bool) (a b : ℕ) → FinalBy t (Passing l) a → FinalBy t (Passing l) b → Apart t a b →

@@ -1,4 +1,4 @@
--- Votes for links: who voted for what, which links two thirds of the weight make, and what two votes of one voter break the rules.
+-- Votes for links: who voted for what, which links two thirds of the weight make, and which two votes of one voter break the rules.
 -- Assumes nothing.
 use mathlib.Core.Path.{_≡_}
 use mathlib.Core.Logic.{_↔_, _⊎_}
@@ -98,7 +98,11 @@ pub record ThirdShown (t : Tree) (vs : Electorate) (xs : List Vote) : Type 0 whe
   pub hold : AllHold t xs proofs
   pub third : Third vs (named proofs)
 
--- The tests say what they are meant to. Two votes break the rules exactly if they are of one voter and one of the rules fits.
+-- The tests say what they are meant to. A part is a quorum exactly if three times it is at least two times the whole.
+abbrev pub QuorumInWords : Type 0
+QuorumInWords = (part whole : ℕ) → (quorum part whole ≡ true) ↔ (2 * whole ≤ 3 * part)
+
+-- Two votes break the rules exactly if they are of one voter and one of the rules fits.
 abbrev pub BreachInWords : Type 0
 BreachInWords =
     (t : Tree) (x y : Vote) → (breach t x y ≡ true) ↔

@@ -22,10 +22,10 @@ pub use rules::tests_are_the_rules;
 pub use safety::clashing_votes_breach;
 pub use safety::final_pages_apart_show_a_third;
 pub use safety::links_clash;
-pub use safety::nothing_can_be_spared;
 pub use safety::one_settled_page_a_height;
 pub use safety::quorums_share_voters;
 pub use safety::settled_pages_lie_on_final_ones;
+pub use safety::two_thirds_and_both_rules_are_needed;
 
 // From a page to a higher one on top of it, by their numbers in a book.
 #[derive(Clone, Copy)]

@@ -1,6 +1,7 @@
-// What counts as a vote, a quorum and a breach of the rules.
+// What counts as a quorum, a vote and a breach of the rules, and what a guard lets through.
 ghost use mathlib.Core.Path.{_≡_};
-ghost use Rattle.finality.specs.Votes.{BreachInWords, NamedInWords, VotedInWords, quorum};
+ghost use Rattle.finality.specs.Guard.{LetsInWords};
+ghost use Rattle.finality.specs.Votes.{BreachInWords, NamedInWords, QuorumInWords, VotedInWords, quorum};
 
 // Whether a part of the weight is two thirds of the whole or more.
 pub fn is_quorum(part: u32, whole: u32) -> bool
@@ -9,7 +10,7 @@ pub fn is_quorum(part: u32, whole: u32) -> bool
     2 * (whole as u64) <= 3 * (part as u64)
 }
 
-// The tests that all contracts use say just what the rules say in words.
+// The tests for a vote, a quorum, a breach, a name and what a guard lets through say just what the rules say in words.
 pub fn tests_are_the_rules()
-    ensures { λ _. ⌜ BreachInWords × VotedInWords × NamedInWords ⌝ }
+    ensures { λ _. ⌜ VotedInWords × QuorumInWords × BreachInWords × NamedInWords × LetsInWords ⌝ }
 {}

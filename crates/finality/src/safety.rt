@@ -1,5 +1,5 @@
 // Whatever anybody voted: two final pages apart show who broke the rules.
-ghost use Rattle.finality.specs.Needed.{AllNeeded};
+ghost use Rattle.finality.specs.Needed.{BothRulesNeeded, TwoThirdsNeeded};
 ghost use Rattle.finality.specs.Safety.{AllNamed, BothBreach, ClashWeighs, Crossed, FinalApart, FinalApartBy};
 ghost use Rattle.finality.specs.Safety.{LinksClash, OnTop, OneAHeight, SharedThird, SharedWeight};
 
@@ -13,27 +13,29 @@ pub fn links_clash()
     ensures { λ _. ⌜ Crossed × LinksClash ⌝ }
 {}
 
-// Who voted for two links that clash has broken the rules by these two votes, and all who did weigh enough.
+// Who voted for two links that clash has broken the rules by these two votes. So all who broke the rules weigh at least what the
+// voters for the two links weigh beyond the whole.
 pub fn clashing_votes_breach()
     ensures { λ _. ⌜ BothBreach × ClashWeighs ⌝ }
 {}
 
-// Of settled pages there is one a height, or a third broke the rules and is shown.
+// There is at most one settled page a height, or a third broke the rules and is shown.
 pub fn one_settled_page_a_height()
     ensures { λ _. ⌜ OneAHeight ⌝ }
 {}
 
-// What is settled above a final page lies on it, or a third is shown.
+// A settled page as high as a final one or higher lies on it, or a third is shown.
 pub fn settled_pages_lie_on_final_ones()
     ensures { λ _. ⌜ OnTop ⌝ }
 {}
 
-// Two final pages, neither under the other, show a third, and whoever names all that broke the rules names one.
+// Two final pages, neither under the other, show a third, by whatever weights each link that spans their lower height has two
+// thirds; and whoever names all that broke the rules names a third.
 pub fn final_pages_apart_show_a_third()
     ensures { λ _. ⌜ FinalApart × FinalApartBy × AllNamed ⌝ }
 {}
 
-// Neither two thirds nor either of the rules can be spared: there are histories that show it.
-pub fn nothing_can_be_spared()
-    ensures { λ _. ⌜ AllNeeded ⌝ }
+// A share below two thirds would not do, and neither would one of the rules alone.
+pub fn two_thirds_and_both_rules_are_needed()
+    ensures { λ _. ⌜ TwoThirdsNeeded × BothRulesNeeded ⌝ }
 {}
