@@ -135,7 +135,9 @@ module _ (ps hs : List ℕ) (bk : Book ps hs) (p : ℕ) (low : p < length ps) wh
 pub page-added : PageAdded
 page-added ps hs bk p low = (
   added-book ps hs bk p low,
-  λ l. extends-unmoved (treeOf ps hs) (treeOf (ps ++ p ∷ []) (heightAdded hs p)) (length ps) (added-extends ps hs bk p low) (Passing l),
+  λ l.
+      extends-unmoved (treeOf ps hs) (treeOf (ps ++ p ∷ []) (heightAdded hs p)) (length ps) (added-extends ps hs bk p low)
+      (Passing l),
 )
 
 pub votes-unmoved : VotesUnmoved

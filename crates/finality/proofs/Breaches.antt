@@ -93,8 +93,10 @@ lets-in-words g s t = (there, back)
   where
     there : lets g s t ≡ true → (s < t) × ((g .fresh ≡ true) ⊎ ((g .source ≤ s) × (g .target < t)))
     there e =
-        let p = and-parts _ _ e in
-        (ltb-true _ _ (p .0), ⊎-elim inl (λ h. let q = and-parts _ _ h in inr (leb-true _ _ (q .0), ltb-true _ _ (q .1))) (or-cases _ _ (p .1)))
+        let p = and-parts _ _ e in (
+          ltb-true _ _ (p .0),
+          ⊎-elim inl (λ h. let q = and-parts _ _ h in inr (leb-true _ _ (q .0), ltb-true _ _ (q .1))) (or-cases _ _ (p .1)),
+        )
 
     back : (s < t) × ((g .fresh ≡ true) ⊎ ((g .source ≤ s) × (g .target < t))) → lets g s t ≡ true
     back w =

@@ -14,7 +14,8 @@ use Rattle.finality.specs.Tree.{Tree}
 use Rattle.finality.specs.Links.{link, next}
 use Rattle.finality.specs.Votes.{Electorate, Settled, _∈_, breach, linked, vote, voted}
 use Rattle.finality.specs.Guard.{Guard, after, bare, guardOf}
-use Rattle.finality.specs.Conduct.{BallotsAreTheirs, Clean, Keepers, KeepersBegin, NeverCornered, also, ballots, mayVote, withBallots}
+use Rattle.finality.specs.Conduct.{BallotsAreTheirs, Clean, Keepers, KeepersBegin, NeverCornered, also, ballots, mayVote}
+use Rattle.finality.specs.Conduct.{withBallots}
 use Rattle.finality.proofs.Cast.{cast-voted}
 use Rattle.finality.proofs.Each.{each-of, in-each}
 use Rattle.finality.proofs.Growing.{more-votes}

@@ -11,7 +11,7 @@ use lib.Dec.{eqb, leb, ltb}
 use lib.ListN.{length, getD}
 use Rattle.std.proofs.shelf.Tests.{and-parts, leb-true, ltb-true, not-true}
 use Rattle.finality.specs.declared.Vote.{Vote}
-use Rattle.finality.specs.Tree.{Apart, Tree, Under}
+use Rattle.finality.specs.Tree.{Apart, Grown, Tree, Under}
 use Rattle.finality.specs.Links.{first, link, next}
 use Rattle.finality.specs.Votes.{Electorate, Final, _∈_, linked, vote, voted, weighed}
 use Rattle.finality.specs.Book.{Book, treeOf}
@@ -19,8 +19,8 @@ use Rattle.finality.specs.Needed.{ApartKeeping, BothRulesNeeded, TwoThirdsNeed
 use Rattle.finality.proofs.Books.{added-book, book-grown}
 use Rattle.finality.proofs.Trees.{first-under, under-to}
 
--- For a share num / (m + 1) below two thirds: voters 0 and 1 weigh 2 m + 3 each and voter 2 weighs 2 m, of 6 m + 6. One set is 0 and
--- 2, the other 1 and 2.
+-- For a share num / (m + 1) below two thirds: voters 0 and 1 weigh 2 m + 3 each and voter 2 weighs 2 m, of 6 m + 6 together. One
+-- set is 0 and 2, the other 1 and 2.
 abbrev weights : ℕ → ℕ → ℕ
 weights m zero = 2 * m + 3
 weights m (suc zero) = 2 * m + 3
@@ -125,14 +125,15 @@ final-by : (b : Pages) (xs : List Vote) (a d : ℕ) → ltb (tree b .height 0) (
     Final (tree b) four xs a
 final-by b xs a d up in-link later on out-link =
     record {
-      settled =
-          next 0 (first refl)
-          (record { under = first-under (tree b) (book-grown (b .parents) (b .heights) (b .book)) a; higher = ltb-true _ _ up }) in-link;
+      settled = next 0 (first refl) (record { under = first-under (tree b) grown a; higher = ltb-true _ _ up }) in-link;
       top = d;
       later = leb-true _ _ later;
       on = on;
       linked = out-link;
     }
+  where
+    grown : Grown (tree b)
+    grown = book-grown (b .parents) (b .heights) (b .book)
 
 module _ (t : Tree) {a : ℕ} where
   -- a doesn't lie under a page, if it isn't that page and doesn't lie under its parent; nor under page 0

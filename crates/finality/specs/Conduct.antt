@@ -83,13 +83,16 @@ also signed k v = signed v ++ vote v k ∷ []
 abbrev pub mayVote : Tree → (ℕ → List Vote) → Link → ℕ → Bool
 mayVote t signed k v = lets (guardOf t bare (signed v)) (t .height (k .source)) (t .height (k .target))
 
--- What two more votes of each keeper, from a to c and then from c to d, come to: the guard of each lets first the one and then
--- the other through, they keep the rules with them, and c is final.
+-- the votes once each of them has voted from a to c and then from c to d
+abbrev pub twoMore : Electorate → (ℕ → Bool) → ℕ → ℕ → ℕ → List Vote → List Vote
+twoMore vs h a c d xs = withBallots vs h (link c d) (withBallots vs h (link a c) xs)
+
+-- What these come to: the guard of each lets first the one and then the other through, they keep the rules with them, and c is final.
 pub record Way (t : Tree) (vs : Electorate) (xs : List Vote) (h : ℕ → Bool) (signed : ℕ → List Vote) (a c d : ℕ) : Type 0 where
   pub first : (v : ℕ) → h v ≡ true → mayVote t signed (link a c) v ≡ true
   pub second : (v : ℕ) → h v ≡ true → mayVote t (also signed (link a c)) (link c d) v ≡ true
-  pub keep : Keepers t vs (withBallots vs h (link c d) (withBallots vs h (link a c) xs)) h (also (also signed (link a c)) (link c d))
-  pub final : Final t vs (withBallots vs h (link c d) (withBallots vs h (link a c) xs)) c
+  pub keep : Keepers t vs (twoMore vs h a c d xs) h (also (also signed (link a c)) (link c d))
+  pub final : Final t vs (twoMore vs h a c d xs) c
 
 -- Never cornered: a is a highest settled page, c a page on top of it and higher than all targets that the keepers signed (others
 -- may have voted higher), and d lies right on top of c.
