@@ -1,4 +1,4 @@
--- The rules on two links: the tests, and what they say of heights.
+-- The rules on two links, the quorum and the guard's rule: what the tests say in words.
 -- Assumes nothing.
 use mathlib.Core.Path.{_≡_, refl, ap}
 use mathlib.Core.Logic.{_⊎_, inl, inr, ⊎-elim}

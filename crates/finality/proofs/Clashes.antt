@@ -69,7 +69,7 @@ module _ (t : Tree) (g : Grown t) (L : Link → Type 0) where
 
     pub crossing-clashes : ((r : ℕ) → twice t (c .step) (link r a) ≡ true) ⊎ (clash t (c .step) (link a d) ≡ true)
     crossing-clashes =
-        ⊎-elim (λ e. inl (as-high e)) (λ n. inr (⊎-elim as-top (λ m. higher (omega (arith, tall, c .ends))) (at-top))) at-a
+        ⊎-elim (λ e. inl (as-high e)) (λ n. inr (⊎-elim as-top (λ m. higher (omega (arith, tall, c .ends))) at-top)) at-a
       where
         at-a : (t .height (c .step .target) ≡ t .height a) ⊎ (t .height (c .step .target) ≡ t .height a → ⊥)
         at-a = cases-eq (t .height (c .step .target)) (t .height a)

@@ -82,15 +82,15 @@ module _ (t : Tree) where
     more : (a : ℕ) → Settled t vs xs a → Settled t vs (withBallots vs h k xs) a
     more a = more-votes t vs xs (withBallots vs h k xs) (λ x m. Memᴰ·append-right (ballots vs h k) m) a .0
 
-    cast-links : linked vs (withBallots vs h k xs) k ≡ true
-    cast-links =
+    ballots-link : linked vs (withBallots vs h k xs) k ≡ true
+    ballots-link =
         quorum-within vs h (voted (withBallots vs h k xs) k)
         (λ v i e. cast-voted k v (Memᴰ·append-left xs (in-each h (λ w. vote w k) (vs .count) v i e))) (c .most)
 
     -- a vote of each from a settled page, above all that it signed
-    cast-keeps : Settled t vs xs (k .source) → ((v : ℕ) → h v ≡ true → Above (signed v) k) →
+    ballots-keep : Settled t vs xs (k .source) → ((v : ℕ) → h v ≡ true → Above (signed v) k) →
         Keepers t vs (withBallots vs h k xs) h (also signed k)
-    cast-keeps s high =
+    ballots-keep s high =
         record { most = c .most; all = all; from = from; clean = λ v e. clean-also (signed v) v k (c .clean v e) (high v e) }
       where
         all : (x : Vote) → x ∈ withBallots vs h k xs → h (x .voter) ≡ true → x ∈ also signed k (x .voter)
@@ -112,14 +112,14 @@ never-cornered t g vs xs h signed keepers a s top c d on up i right bound =
     record {
       first = λ v e. above-lets t signed (link a c) v (high v e) up;
       second = λ v e. above-lets t (also signed (link a c)) (link c d) v (higher v e) tall;
-      keep = cast-keeps t vs (withBallots vs h (link a c) xs) h (also signed (link a c)) kept (link c d) settled higher;
+      keep = ballots-keep t vs (withBallots vs h (link a c) xs) h (also signed (link a c)) kept (link c d) settled higher;
       final =
           record {
             settled = more t vs (withBallots vs h (link a c) xs) h (also signed (link a c)) kept (link c d) c settled;
             top = d;
             later = i;
             on = right;
-            linked = cast-links t vs (withBallots vs h (link a c) xs) h (also signed (link a c)) kept (link c d);
+            linked = ballots-link t vs (withBallots vs h (link a c) xs) h (also signed (link a c)) kept (link c d);
           };
     }
   where
@@ -141,9 +141,9 @@ never-cornered t g vs xs h signed keepers a s top c d on up i right bound =
             subst (λ y. Before t (y .link) (link c d)) (sym e) (record { low = omega arith; high = tall })
 
     kept : Keepers t vs (withBallots vs h (link a c) xs) h (also signed (link a c))
-    kept = cast-keeps t vs xs h signed keepers (link a c) s high
+    kept = ballots-keep t vs xs h signed keepers (link a c) s high
 
     settled : Settled t vs (withBallots vs h (link a c) xs) c
     settled =
         next a (more t vs xs h signed keepers (link a c) a s) (record { under = on; higher = up })
-        (cast-links t vs xs h signed keepers (link a c))
+        (ballots-link t vs xs h signed keepers (link a c))

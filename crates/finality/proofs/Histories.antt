@@ -8,13 +8,13 @@ use Prim.Native.Nat.{ℕ, zero, suc, _+_, _*_, _<_, _≤_}
 use native.Mathlib.Nat.{mul-assoc, mul-comm, mul-le-mul-left}
 use native.Mathlib.Omega.{arith}
 use lib.Dec.{eqb, leb, ltb}
-use lib.ListN.{length, getD}
+use lib.ListN.{length}
 use Rattle.std.proofs.shelf.Tests.{and-parts, leb-true, ltb-true, not-true}
 use Rattle.finality.specs.declared.Vote.{Vote}
 use Rattle.finality.specs.Tree.{Apart, Grown, Tree, Under}
 use Rattle.finality.specs.Links.{first, link, next}
 use Rattle.finality.specs.Votes.{Electorate, Final, _∈_, linked, vote, voted, weighed}
-use Rattle.finality.specs.Book.{Book, treeOf}
+use Rattle.finality.specs.Book.{Book, heightAdded, treeOf}
 use Rattle.finality.specs.Needed.{ApartKeeping, BothRulesNeeded, TwoThirdsNeeded, firstRule, secondRule}
 use Rattle.finality.proofs.Books.{added-book, book-grown}
 use Rattle.finality.proofs.Trees.{first-under, under-to}
@@ -45,6 +45,7 @@ two-thirds-needed num (suc m) h =
       few = omega arith;
     }
 
+-- all votes pass the test
 every : (Vote → Bool) → List Vote → Bool
 every p [] = true
 every p (x ∷ xs) = p x && every p xs
@@ -90,7 +91,7 @@ abbrev add : (b : Pages) (p : ℕ) → ltb p (length (b .parents)) ≡ true → 
 add b p low =
     record {
       parents = b .parents ++ p ∷ [];
-      heights = b .heights ++ (getD (b .heights) p 1 + 1) ∷ [];
+      heights = heightAdded (b .heights) p;
       book = added-book (b .parents) (b .heights) (b .book) p (ltb-true _ _ low);
     }
 

@@ -21,7 +21,7 @@ pub fn one_pass_decides()
     ensures { λ _. ⌜ OnePass ⌝ }
 {}
 
-// One pass over the links that votes make marks just what they settle.
+// One such pass over the links that votes make marks just what they settle.
 pub fn one_pass_decides_votes()
     ensures { λ _. ⌜ OnePassOfVotes ⌝ }
 {}

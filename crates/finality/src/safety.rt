@@ -29,8 +29,8 @@ pub fn settled_pages_lie_on_final_ones()
     ensures { λ _. ⌜ OnTop ⌝ }
 {}
 
-// Two final pages, neither under the other, show a third, by whatever weights each link that spans their lower height has two
-// thirds; and whoever names all that broke the rules names a third.
+// Two final pages, neither under the other, show a third: by the weights that make the links, and by any others by which each link
+// that spans the lower page's height has two thirds. Whoever names all that broke the rules names a third.
 pub fn final_pages_apart_show_a_third()
     ensures { λ _. ⌜ FinalApart × FinalApartBy × AllNamed ⌝ }
 {}
