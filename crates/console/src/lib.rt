@@ -1,4 +1,6 @@
 // What the programs share at their edges: why one stops early, and standard input read whole.
+#![tactic(auto)]
+
 ghost use Rattle.std.specs.Prelude.{◌≡◌};
 ghost use Rattle.console.specs.declared.Fault.TheVariants.{Io, Memory};
 

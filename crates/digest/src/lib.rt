@@ -1,4 +1,6 @@
 // SHA-256 (FIPS 180-4) of a lent slice of bytes: no memory is asked for, and whole blocks are read where they lie.
+#![tactic(auto)]
+
 ghost use Rattle.std.specs.Prelude.{◌≡◌, ◌/◌, ◌<◌, ◌≤◌, length, drop, MatchOption};
 ghost use Rattle.digest.specs.Laws.{KnownAnswers, Origin, Padding};
 ghost use Rattle.digest.specs.Sha256.{hashed, initial, sha256_of};

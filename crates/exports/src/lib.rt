@@ -1,4 +1,6 @@
 // What programs in other languages call, by the C ABI: the benchmark does.
+#![tactic(auto)]
+
 ghost use Rattle.std.specs.Prelude.{eqb, length, cond, ◌≡◌};
 ghost use Rattle.digest.specs.Sha256.{sha256_of};
 

@@ -1,5 +1,6 @@
 // The theory of finality: links between pages, the votes that make them, what is settled and final, and who broke the rules.
 // The theorems stand on the contracts of functions that do nothing; what they say is in specs/.
+#![tactic(auto)]
 
 mod book;
 mod conduct;

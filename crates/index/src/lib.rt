@@ -1,4 +1,6 @@
 // Keys of 32 bytes and the numbers under which they were entered.
+#![tactic(auto)]
+
 ghost use Rattle.std.specs.Prelude.{◌≡◌, ℕ, ◌≤◌, List, vec_len, vec_capacity};
 ghost use Rattle.index.specs.Find.{FindsLast};
 ghost use Rattle.index.specs.Chains.{Headed, Linked};

@@ -1,4 +1,6 @@
 // Pages: the bytes of one, its parts, its digest, and why one is turned away.
+#![tactic(auto)]
+
 mod parts;
 mod refusals;
 

@@ -1,4 +1,6 @@
 // Rehearses a script: answers each of its lines, and says at the end what is settled and what is final.
+#![tactic(auto)]
+
 ghost use Rattle.std.specs.Prelude.{◌≡◌, ◌+◌, ◌^◌, ◌<◌, ◌++◌, length, IfOk, string_bytes, codes, OnOk};
 ghost use Rattle.rehearse.specs.Pieces.{Piece};
 

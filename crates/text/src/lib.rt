@@ -1,4 +1,6 @@
 // Lines, words and numbers of an input, as views of the bytes that hold them: nothing is copied.
+#![tactic(auto)]
+
 ghost use Rattle.std.specs.Prelude.{◌≡◌, [], MatchOption};
 ghost use Rattle.text.specs.Lines.{chomp, FirstLine};
 ghost use Rattle.text.specs.Pieces.{Cut, First};

@@ -1,4 +1,6 @@
 // The tree of a book's pages: each page's parent and height, by its number.
+#![tactic(auto)]
+
 ghost use Rattle.std.specs.Prelude.{◌≡◌, ℕ, ◌+◌, ◌<◌, ◌≤◌, length, vec_capacity, slice_index, slice_index_or};
 
 mod lent;

@@ -1,4 +1,6 @@
 // Prints the SHA-256 digest of each message that the lines of standard input describe.
+#![tactic(auto)]
+
 mod answers;
 mod hex;
 mod messages;

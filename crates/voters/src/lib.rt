@@ -1,4 +1,6 @@
 // The voters and their weights.
+#![tactic(auto)]
+
 ghost use Rattle.std.specs.Prelude.{◌≡◌, ℕ, ◌≤◌, sum, slice_index};
 
 mod reading;
