@@ -5,4 +5,4 @@ use Rattle.digest.specs.Sha256.{sha256_of}
 use Rattle.digest.proofs.receipts_digest.Goals as goal
 
 pub returns : goal.returns
-returns c = (c.if-page-lt-RECEIPTS-AT.false, c.sha256.ensures ∙ ap sha256_of (take_rest c.args.page.now 39))
+returns c = (c.if-page-lt-RECEIPTS_AT.false, c.sha256.ensures ∙ ap sha256_of (take_rest c.args.page.now 39))

@@ -11,7 +11,7 @@ returns c =
     let m = c.args.bytes.now in
     let bits = length m * 8 % 2 ^ 64 in
     let e = take_rest m (64 * (length m / 64)) in
-    c.to-bytes.ensures ∙
+    c.to_bytes.ensures ∙
     ap bytes_of
-    (c.last-blocks.ensures ∙ (λ i. hashed (c.whole-blocks-s.ensures i) (ended (e i) bits) (length (ended (e i) bits) / 64)) ∙
+    (c.last_blocks.ensures ∙ (λ i. hashed (c.whole_blocks-s.ensures i) (ended (e i) bits) (length (ended (e i) bits) / 64)) ∙
     all_blocks m bits initial)

@@ -10,9 +10,9 @@ loop-i-preserved c = All-more (λ b. b ≡ 32) c.args.s.now c.loop-i.i 0 c.loop-
 
 pub returns-then-b-ne32 : goal.returns-then-b-ne32
 returns-then-b-ne32 c =
-    word_after c.args.s.now c.loop-i.i c.split-word.result.0.now c.split-word.result.1.now
+    word_after c.args.s.now c.loop-i.i c.split_word.result.0.now c.split_word.result.1.now
     c.loop-i-test.true c.loop-i.invariant c.if-b-ne32.true
-    (subst (λ (t : List ℕ). Word t c.split-word.result.0.now c.split-word.result.1.now) (take_rest c.args.s.now c.loop-i.i) c.split-word.ensures)
+    (subst (λ (t : List ℕ). Word t c.split_word.result.0.now c.split_word.result.1.now) (take_rest c.args.s.now c.loop-i.i) c.split_word.ensures)
 
 blank : (c : goal.After-loop-i) → Blank c.args.s.now
 blank c = subst (λ (t : List ℕ). Blank t) (take_all c.loop-i.i c.args.s.now c.loop-i-test.false) c.loop-i.invariant

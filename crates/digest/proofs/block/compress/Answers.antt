@@ -14,5 +14,5 @@ returns c =
     let g = c.mix-x.ensures m s (going_none m s c.load.new.w refl c.load.ensures) in
     let full = going_all m s w _ c.mix-x.array_long g in
     let x = g.state ∙ ap (λ l. rounds s l 48) (sym full) in
-    let z = c.eight-rounds-z.ensures s (c.eight-rounds-y.ensures s x) in
-    c.added-up.ensures ∙ ap (added s) (z ∙ ap (λ l. rounds s l 64) full)
+    let z = c.eight_rounds-z.ensures s (c.eight_rounds-y.ensures s x) in
+    c.added_up.ensures ∙ ap (added s) (z ∙ ap (λ l. rounds s l 64) full)

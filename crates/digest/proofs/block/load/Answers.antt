@@ -8,8 +8,8 @@ use Rattle.digest.proofs.block.load.Goals as goal
 pub loop-t-preserved : goal.loop-t-preserved
 loop-t-preserved c =
     let h : c.loop-t.t < length c.loop-t.w = omega arith in (
-      length-set c.loop-t.w c.loop-t.t c.word-at.result ∙ c.loop-t.invariant.0,
-      filled_more (word_at c.args.block.now) c.loop-t.w c.loop-t.t c.word-at.result h c.loop-t.invariant.1 c.word-at.ensures,
+      length-set c.loop-t.w c.loop-t.t c.word_at.result ∙ c.loop-t.invariant.0,
+      filled_more (word_at c.args.block.now) c.loop-t.w c.loop-t.t c.word_at.result h c.loop-t.invariant.1 c.word_at.ensures,
     )
 
 pub returns : goal.returns

@@ -7,12 +7,12 @@ pub returns : goal.returns
 unfolding round_of
 returns c =
     λ i. record {
-      a = add32 (add32 (add32 (add32 (add32 c.args.s.h (c.big-sigma1.ensures i)) (c.choose.ensures i)) c.args.k) c.args.w)
-          (add32 (c.big-sigma0.ensures i) (c.majority.ensures i));
+      a = add32 (add32 (add32 (add32 (add32 c.args.s.h (c.big_sigma1.ensures i)) (c.choose.ensures i)) c.args.k) c.args.w)
+          (add32 (c.big_sigma0.ensures i) (c.majority.ensures i));
       b = c.args.s.a;
       c = c.args.s.b;
       d = c.args.s.c;
-      e = add32 c.args.s.d (add32 (add32 (add32 (add32 c.args.s.h (c.big-sigma1.ensures i)) (c.choose.ensures i)) c.args.k) c.args.w);
+      e = add32 c.args.s.d (add32 (add32 (add32 (add32 c.args.s.h (c.big_sigma1.ensures i)) (c.choose.ensures i)) c.args.k) c.args.w);
       f = c.args.s.e;
       g = c.args.s.f;
       h = c.args.s.g;

@@ -5,4 +5,4 @@ use Rattle.digest.proofs.padding.padded_end.Goals as goal
 pub returns : goal.returns
 returns c =
     end_written c.args.rest.now c.args.bits 128 c.args.size c.requires.0 c.requires.1 c.put.new.out
-    c.to-be-bytes.result c.put-2.new.out c.put.ensures c.to-be-bytes.ensures c.put-2.ensures
+    c.to_be_bytes.result c.put-2.new.out c.put.ensures c.to_be_bytes.ensures c.put-2.ensures

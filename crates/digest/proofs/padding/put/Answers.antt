@@ -9,5 +9,5 @@ returns c =
     let out = c.args.out.now in
     let bytes = c.args.bytes.now in
     let n : at + length bytes - at ≡ length bytes = omega arith in
-    (λ i. take at out ++ (c.copy-from-slice.ensures.after i ++ drop (n i) (drop at out))) ∙
+    (λ i. take at out ++ (c.copy_from_slice.ensures.after i ++ drop (n i) (drop at out))) ∙
     ap (λ l. take at out ++ (bytes ++ l)) (drop-drop (length bytes) at out)

@@ -2,9 +2,9 @@ use Rattle.std.proofs.Common.{arith, rules}
 use Rattle.index.proofs.Chained.{headed_none, linked_none}
 use Rattle.index.proofs.Index.new.Goals as goal
 
-pub invariant-of-result : goal.invariant-of-result
-invariant-of-result c =
-    let k = c.in-ok-keys.ensures in
-    let o = c.in-ok-older.ensures in
-    let h = c.in-ok-heads.ensures in
+pub invariant_of-result : goal.invariant_of-result
+invariant_of-result c =
+    let k = c.in_ok-keys.ensures in
+    let o = c.in_ok-older.ensures in
+    let h = c.in_ok-heads.ensures in
     (omega arith, (k.capacity, (omega arith, (o.capacity, (h.len, (headed_none _ _ 65536 k.items (h.items-if-clones-equal (λ y e. e)) (omega arith), (linked_none _ _ k.items, tt)))))))

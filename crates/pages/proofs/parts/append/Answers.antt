@@ -8,8 +8,8 @@ returns c =
     let at = c.args.at in
     let out = c.args.out.now in
     let bytes = c.args.bytes.now in
-    let part = c.copy-from-slice.new.self in
-    let same = c.copy-from-slice.ensures.after in
+    let part = c.copy_from_slice.new.self in
+    let same = c.copy_from_slice.ensures.after in
     let long = ap length same in
     record {
       end = refl;

@@ -5,7 +5,7 @@ use Rattle.tree.proofs.Columns.tree.Goals as goal
 pub returns : goal.returns
 returns c =
     record {
-      parents = c.as-slice.ensures.value;
-      heights = c.as-slice-2.ensures.value;
+      parents = c.as_slice.ensures.value;
+      heights = c.as_slice-2.ensures.value;
       grown = book_grown _ _ (columns_book c.args.self.now);
     }
