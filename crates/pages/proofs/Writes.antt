@@ -18,6 +18,7 @@ further x y a b h e = let s : a + (b - a) ≡ b = omega arith in ap (λ n. drop 
 pub put_parts : (h : ℕ) (p r : List ℕ) → Writable h p r → (ks hs cs : List ℕ) → ks ≡ 1 ∷ [] → hs ≡ four h → cs ≡ two (length r) →
     (o o1 o2 o3 o4 o5 : List ℕ) (n1 n2 n3 n4 n5 : ℕ) → Appended o 0 ks o1 n1 → Appended o1 n1 hs o2 n2 → Appended o2 n2 p o3 n3 →
     Appended o3 n3 cs o4 n4 → Appended o4 n4 r o5 n5 → Put h p r o o5 n5
+unfolding encoded
 put_parts h p r w ks hs cs ke he ce o o1 o2 o3 o4 o5 n1 n2 n3 n4 n5 a1 a2 a3 a4 a5 =
     record { writable = w; size = size; front = front; rest = rest } where
       size : n5 ≡ 39 + length r
@@ -29,7 +30,6 @@ put_parts h p r w ks hs cs ke he ce o o1 o2 o3 o4 o5 n1 n2 n3 n4 n5 a1 a2 a3 a4 
           omega arith
 
       front : take n5 o5 ≡ encoded h p r
-      unfolding encoded
       front =
           a5.front ∙ ap (λ l. l ++ r) (a4.front ∙ ap (λ l. l ++ cs) (a3.front ∙ ap (λ l. l ++ p) (a2.front ∙ ap (λ l. l ++ hs) a1.front))) ∙
           (λ i. (((ke i ++ he i) ++ p) ++ ce i) ++ r) ∙ append_assoc ((1 ∷ four h) ++ p) (two (length r)) r

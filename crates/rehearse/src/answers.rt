@@ -39,7 +39,8 @@ pub fn report(out: &mut String, number: u64, answer: Answer) -> fmt::Result
     match answer {
         Answer::Refused(why) => {
             let code = why.number();
-            write!(out, "line {number}: refused {code}\n")
+            write!(out, "line {number}: refused {code}\n")?;
+            Ok(())
         }
     }
 }

@@ -81,5 +81,6 @@ fn answer_piece<'a>(out: &mut String, from: Place<'a>) -> Result<Place<'a>, Faul
 fn conclude(out: &mut String) -> fmt::Result
     ensures { OnOk result (string_bytes out.new ≡ string_bytes out.old ++ codes "settled 0\nfinal\n") }
 {
-    write!(out, "settled 0\nfinal\n")
+    write!(out, "settled 0\nfinal\n")?;
+    Ok(())
 }

@@ -16,7 +16,7 @@ impl Voters {
         let Some((head, rest)) = text::first_word(line) else {
             return None;
         };
-        if head != b"weights" {
+        if head != b"weights".as_slice() {
             return None;
         }
         let Some(filled) = row(rest) else {

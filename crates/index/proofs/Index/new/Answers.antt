@@ -7,4 +7,12 @@ invariant_of-result c =
     let k = c.in_ok-keys.ensures in
     let o = c.in_ok-older.ensures in
     let h = c.in_ok-heads.ensures in
-    (omega arith, (k.capacity, (omega arith, (o.capacity, (h.len, (headed_none _ _ 65536 k.items (h.items-if-clones-equal (λ y e. e)) (omega arith), (linked_none _ _ k.items, tt)))))))
+    record {
+      few = omega arith;
+      room = k.capacity;
+      level = omega arith;
+      older_room = o.capacity;
+      wide = h.len;
+      headed = headed_none _ _ 65536 k.items (h.items-if-clones-equal (λ y e. e)) (omega arith);
+      linked = linked_none _ _ k.items;
+    }

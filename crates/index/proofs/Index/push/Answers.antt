@@ -6,7 +6,13 @@ pub invariant_of-self-2 : goal.invariant_of-self-2
 invariant_of-self-2 c =
     let self = c.args.self.now in
     let entered = c.push_reserved-2.ensures.items in
-    let at = c.pair-at.ensures in (
-      omega arith,
-      (omega arith, (omega arith, (omega arith, (omega arith, (headed_pushed _ _ _ _ _ _ self.headed entered at.value (omega arith) (omega arith), (linked_pushed _ _ _ _ _ _ _ _ self.headed self.linked entered c.push-reserved.ensures.items at.value at.bound (omega arith) (omega arith) c.index.ensures, tt)))))),
-    )
+    let at = c.pair-at.ensures in
+    record {
+      few = omega arith;
+      room = omega arith;
+      level = omega arith;
+      older_room = omega arith;
+      wide = omega arith;
+      headed = headed_pushed _ _ _ _ _ _ self.headed entered at.value (omega arith) (omega arith);
+      linked = linked_pushed _ _ _ _ _ _ _ _ self.headed self.linked entered c.push_reserved.ensures.items at.value at.bound (omega arith) (omega arith) c.index.ensures;
+    }

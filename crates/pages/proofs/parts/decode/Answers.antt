@@ -9,15 +9,15 @@ use Rattle.pages.proofs.parts.decode.Goals.{then-count-gt-MOST_RECEIPTS-via-then
 
 pub returns-then-bytes-lt-RECEIPTS_AT : goal.returns-then-bytes-lt-RECEIPTS_AT
 returns-then-bytes-lt-RECEIPTS_AT c =
-    elim c.then-bytes-lt-RECEIPTS-AT.branch [
-      | then-bytes-lt-RECEIPTS_AT-via-then-bytes-lt-RECEIPTS_AT w ↦ cut_short _ w.if-bytes-lt-RECEIPTS-AT.true
+    elim c.then-bytes-lt-RECEIPTS_AT.branch [
+      | then-bytes-lt-RECEIPTS_AT-via-then-bytes-lt-RECEIPTS_AT w ↦ cut_short _ w.if-bytes-lt-RECEIPTS_AT.true
       | then-bytes-lt-RECEIPTS_AT-via-else-bytes-lt-RECEIPTS_AT+then-bytes-ne-KIND w ↦ other_kind _ w.if-bytes-ne-KIND.true
     ]
 
 pub returns-then-count-gt-MOST_RECEIPTS : goal.returns-then-count-gt-MOST_RECEIPTS
 unfolding count_of
 returns-then-count-gt-MOST_RECEIPTS c =
-    elim c.then-count-gt-MOST-RECEIPTS.branch [
+    elim c.then-count-gt-MOST_RECEIPTS.branch [
       | then-count-gt-MOST_RECEIPTS-via-then-count-gt-MOST_RECEIPTS w ↦ too_many _ (omega (arith, c.from_be_bytes-count.ensures, w.if-count-gt-MOST_RECEIPTS.true))
       | then-count-gt-MOST_RECEIPTS-via-else-count-gt-MOST_RECEIPTS+then-bytes-count w ↦ other_length _ (λ e. w.if-bytes-count.true (e ∙ omega (arith, c.from_be_bytes-count.ensures)))
     ]

@@ -30,7 +30,16 @@ overflow_add-height c =
 pub invariant_of-self : goal.invariant_of-self
 invariant_of-self c =
     let b = (both c).book in
-    (search rules, (search rules, (b.same, (b.some, (search rules, (b.first, (b.below, (b.up, tt))))))))
+    record {
+      wide = search rules;
+      high = search rules;
+      same = b.same;
+      some = b.some;
+      few = search rules;
+      first = b.first;
+      below = b.below;
+      up = b.up;
+    }
 
 pub returns : goal.returns
 returns c =

@@ -23,6 +23,6 @@ returns-then-count-eq-MOST c =
       | inr heavy ↦ filling_heavy _ _ _ _ _ _ f (sym c.in-Some-decimal.ensures) heavy.1
     ]
 
-pub returns-in-default-decimal : goal.returns-in-default-decimal
-returns-in-default-decimal c =
-    filling_bad _ _ _ _ _ (at c.args.s.now _ _ _ _ _ c.in-Some.ensures.of_all c.loop-word.invariant) (sym c.in-default-decimal.ensures)
+pub returns-in_default-decimal : goal.returns-in_default-decimal
+returns-in_default-decimal c =
+    filling_bad _ _ _ _ _ (at c.args.s.now _ _ _ _ _ c.in-Some.ensures.of_all c.loop-word.invariant) (sym c.in_default-decimal.ensures)
