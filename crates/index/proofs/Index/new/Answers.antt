@@ -13,6 +13,6 @@ invariant_of-result c =
       level = omega arith;
       older_room = o.capacity;
       wide = h.len;
-      headed = headed_none _ _ 65536 k.items (h.items-if-clones-equal (λ y e. e)) (omega arith);
+      headed = headed_none _ _ 65536 k.items (h.items_if_clones_equal (λ y e. e)) (omega arith);
       linked = linked_none _ _ k.items;
     }
