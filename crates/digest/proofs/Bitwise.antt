@@ -1,6 +1,6 @@
 -- Two ways to write a function of three words agree if they agree on single bits.
 -- Assumes nothing.
-use Rattle.std.proofs.Common.{◌≡◌, ℕ, zero, suc, ◌+◌, ◌-◌, ◌*◌, ◌/◌, ◌%◌, ◌^◌, ◌<◌, sym, refl, ap, ◌∙◌, le_of_suc-le-suc, not-suc-le-zero, arith}
+use Rattle.std.proofs.Common.{◌≡◌, ℕ, zero, suc, ◌-◌, ◌/◌, ◌%◌, ◌^◌, ◌<◌, sym, refl, ap, ◌∙◌, le_of_suc-le-suc, not-suc-le-zero, arith}
 use native.Mathlib.Nat.{two-pow-succ}
 use lib.Bits.{bit_and, bit_xor}
 use Rattle.std.proofs.lemmas.Nat.{and_shr, xor_shr, and_mod, xor_mod}

@@ -1,6 +1,6 @@
 -- A message's blocks: its own and, behind them, the one or two of its padded end.
 -- Assumes nothing.
-use Rattle.std.proofs.Common.{◌≡◌, ℕ, zero, suc, ◌+◌, ◌-◌, ◌*◌, ◌/◌, ◌%◌, ◌<◌, ◌≤◌, List, [], ◌∷◌, ◌++◌, length, take, drop, replicate, sym, refl, ap, ◌∙◌, append_assoc, add-zero, add-suc, add-one, arith}
+use Rattle.std.proofs.Common.{◌≡◌, ℕ, zero, suc, ◌+◌, ◌-◌, ◌*◌, ◌/◌, ◌%◌, ◌<◌, ◌≤◌, List, ◌∷◌, ◌++◌, length, take, drop, replicate, sym, refl, ap, ◌∙◌, append_assoc, add-zero, add-suc, add-one, arith}
 use Rattle.std.proofs.lemmas.List.{drop-append-le, drop_at, drop-drop, drop-take, length-append, length-drop, length-replicate, length-take-le, take_all, take-append-drop, take-append-le, take_at, take-take}
 use Rattle.digest.specs.declared.block.State.{State}
 use Rattle.digest.specs.Sha256.{block_at, bytes8, compressed, ended, hashed, zeros}

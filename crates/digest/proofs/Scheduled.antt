@@ -1,7 +1,7 @@
 -- One step on: a round, and a word of the schedule.
 -- Assumes nothing.
-use Rattle.std.proofs.Common.{◌≡◌, ℕ, zero, suc, ◌+◌, ◌-◌, ◌<◌, ◌≤◌, List, [], ◌∷◌, ◌++◌, length, get_or, take, set, sym, refl, ap, ◌∙◌, subst, add-zero, add-suc, add-one, arith}
-use Rattle.std.proofs.lemmas.List.{length_push, length-take-le, get_or-take, get_or_append_left, take_more_set, take_all}
+use Rattle.std.proofs.Common.{◌≡◌, ℕ, zero, suc, ◌+◌, ◌-◌, ◌<◌, ◌≤◌, List, [], ◌∷◌, ◌++◌, length, get_or, take, set, sym, refl, ap, ◌∙◌, add-zero, add-suc, add-one, arith}
+use Rattle.std.proofs.lemmas.List.{length_push, get_or-take, get_or_append_left, take_more_set, take_all}
 use Rattle.digest.specs.declared.block.State.{State}
 use Rattle.digest.specs.Words.{add32, σ0, σ1}
 use Rattle.digest.specs.Sha256.{constants, next_word, round_of, rounds, schedule}

@@ -1,10 +1,10 @@
 -- What the number that is found says of the keys.
-use Rattle.std.proofs.Common.{◌≡◌, ℕ, zero, suc, ◌<◌, Bool, true, false, cond, List, [], ◌∷◌, ◌++◌, length, get_or, is_some, Some, None, Option, sym, refl, ap, ◌∙◌, subst, inl, inr, arith}
+use Rattle.std.proofs.Common.{◌≡◌, ℕ, zero, suc, ◌<◌, Bool, true, false, List, [], ◌∷◌, ◌++◌, length, get_or, is_some, Some, None, Option, sym, refl, ap, ◌∙◌, inl, inr, arith}
 use Rattle.std.specs.Str.{bytes_eq}
 use Rattle.std.proofs.lemmas.Slice.Eq.{bytes_eq-Decides}
 use Rattle.std.proofs.lemmas.Bool.{cases_Bool, cond-true, cond-false, both_ways}
 use Rattle.index.specs.Find.{last, before, find, LastAt, Nowhere, FindsLast}
-use Rattle.index.proofs.Lasts.{last_some, last_after, last_zero, last_is, last_push, last_none}
+use Rattle.index.proofs.Lasts.{last_some, last_after, last_zero, last_is, last_push}
 
 -- key i equals d
 abbrev pub same : List (List ℕ) → List ℕ → ℕ → Bool

@@ -1,6 +1,6 @@
 -- A page's bytes and its parts, there and back.
 -- Assumes nothing.
-use Rattle.std.proofs.Common.{◌≡◌, ℕ, ◌+◌, ◌*◌, ◌/◌, ◌%◌, ◌^◌, ◌<◌, ◌≤◌, Bool, true, false, ◌&&◌, eqb, leb, List, [], ◌∷◌, ◌++◌, length, get_or, take, drop, sym, refl, ap, ◌∙◌, inl, inr, arith}
+use Rattle.std.proofs.Common.{◌≡◌, ℕ, ◌+◌, ◌*◌, ◌/◌, ◌%◌, ◌^◌, ◌<◌, ◌≤◌, true, false, List, [], ◌∷◌, ◌++◌, length, get_or, take, drop, sym, refl, ap, ◌∙◌, inl, inr, arith}
 use mathlib.Core.Path.{subst₃}
 use Rattle.std.proofs.lemmas.List.{drop_at, drop-drop, drop_more, get_or-append-add, get_or_past, length-append, length-drop, length-take-le, take-append-drop, take_at}
 use Rattle.std.proofs.ByRecursion.{All-get_or}

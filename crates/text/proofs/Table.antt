@@ -4,7 +4,7 @@ use Rattle.std.specs.List.{range_with_len}
 use Rattle.std.proofs.lemmas.List.FromFn.{get_or-map-range_with_len}
 use Rattle.std.proofs.lemmas.List.{get_or-map}
 use Rattle.std.proofs.lemmas.Bool.{lt-ltb, le-ltb, cond-true, cond-false}
-use Rattle.text.specs.Hex.{hex_digit}
+use Rattle.text.specs.Hex.{hex_digit_of}
 use Rattle.text.specs.Numbers.{hex_value}
 
 -- what each byte is worth: digits, capital letters and small ones, and 16 at every other byte
@@ -30,5 +30,5 @@ pub digit_none : (b : ℕ) → b < 256 → 16 ≤ get_or table b 0 → None ≡ 
 digit_none b h above = sym (cond-false (ltb (get_or table b 0) 16) _ _ (le-ltb _ _ above)) ∙ value_at b h
 
 -- the digit that writes each number below 16
-pub digit_at : (n : ℕ) → n < 16 → get_or (map hex_digit (range_with_len 0 16)) n 0 ≡ hex_digit n
-digit_at n h = get_or-map-range_with_len hex_digit 0 16 n n 0 h (zero-add n)
+pub digit_at : (n : ℕ) → n < 16 → get_or (map hex_digit_of (range_with_len 0 16)) n 0 ≡ hex_digit_of n
+digit_at n h = get_or-map-range_with_len hex_digit_of 0 16 n n 0 h (zero-add n)

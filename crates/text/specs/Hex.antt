@@ -12,8 +12,8 @@ abbrev pub hex_byte : ℕ → ℕ → Option ℕ
 hex_byte high low = pair_of (hex_value high) (hex_value low)
 
 -- the digit, in lower case, that writes a number below 16
-abbrev pub hex_digit : ℕ → ℕ
-hex_digit n = cond (nat_lt n 10) (48 + n) (87 + n)
+abbrev pub hex_digit_of : ℕ → ℕ
+hex_digit_of n = cond (nat_lt n 10) (48 + n) (87 + n)
 
 abbrev pub RoundTrip : Type 0
-RoundTrip = (b : ℕ) → b < 256 → hex_byte (hex_digit (b / 16)) (hex_digit (b % 16)) ≡ Some b
+RoundTrip = (b : ℕ) → b < 256 → hex_byte (hex_digit_of (b / 16)) (hex_digit_of (b % 16)) ≡ Some b

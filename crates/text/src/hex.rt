@@ -1,6 +1,6 @@
 // Bytes as two hexadecimal digits each.
 ghost use Rattle.std.specs.Prelude.{◌≡◌, ◌/◌, ◌%◌, [], ◌∷◌};
-ghost use Rattle.text.specs.Hex.{hex_byte, hex_digit, RoundTrip};
+ghost use Rattle.text.specs.Hex.{hex_byte, hex_digit_of, RoundTrip};
 
 use crate::numbers::hex_digit;
 
@@ -21,7 +21,7 @@ pub fn hex_byte(high: u8, low: u8) -> Option<u8>
 
 /// The two hexadecimal digits that write a byte, in lower case.
 pub fn hex_pair(b: u8) -> [u8; 2]
-    ensures { result ≡ hex_digit (b / 16) ∷ hex_digit (b % 16) ∷ [] }
+    ensures { result ≡ hex_digit_of (b / 16) ∷ hex_digit_of (b % 16) ∷ [] }
 {
     [DIGITS[(b / 16) as usize], DIGITS[(b % 16) as usize]]
 }

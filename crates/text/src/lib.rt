@@ -87,19 +87,19 @@ mod tests {
     #[test]
     fn a_line_ends_before_its_newline(rt: HostRuntime) -> Result<(), Fail> {
         let (line, rest) = first_line(b"a\r\n\nb").ok_or("no line")?;
-        assert!(rt; line == b"a");
-        assert!(rt; rest == b"\nb");
+        assert!(rt; line == b"a".as_slice());
+        assert!(rt; rest == b"\nb".as_slice());
         let (blank, last) = first_line(rest).ok_or("no second line")?;
         assert!(rt; blank.is_empty());
-        assert!(rt; last == b"b");
+        assert!(rt; last == b"b".as_slice());
         Ok(())
     }
 
     #[test]
     fn only_spaces_part_words(rt: HostRuntime) -> Result<(), Fail> {
         let (word, rest) = first_word(b"  a\tb c").ok_or("no word")?;
-        assert!(rt; word == b"a\tb");
-        assert!(rt; rest == b" c");
+        assert!(rt; word == b"a\tb".as_slice());
+        assert!(rt; rest == b" c".as_slice());
         assert!(rt; first_word(b"  ").is_none());
         Ok(())
     }

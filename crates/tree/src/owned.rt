@@ -1,5 +1,5 @@
 // How columns are made, added to and lent.
-ghost use Rattle.std.specs.Prelude.{◌≡◌, ℕ, ◌<◌, ◌≤◌, ◌&&◌, ltb, [], ◌∷◌, ◌++◌, length, is_some, IfOk, if◌then◌else◌, Some, None, nat_lt};
+ghost use Rattle.std.specs.Prelude.{◌≡◌, ℕ, ◌<◌, ◌≤◌, ◌&&◌, [], ◌∷◌, ◌++◌, length, is_some, IfOk, if◌then◌else◌, Some, None, nat_lt};
 ghost use Rattle.finality.specs.Book.{height_added};
 ghost use Rattle.finality.specs.Growth.{Extends};
 ghost use Rattle.finality.specs.Tree.{Grown};
@@ -30,7 +30,7 @@ impl Columns {
 
     /// Adds a page on top of `parent`, and gives its number. Where there is no such parent, or no room, nothing changes.
     pub fn add(&mut self, parent: u32) -> Option<u32>
-        ensures value { result ≡ (if ltb parent (length (parents_of self.old)) && nat_lt (length (parents_of self.old)) 4096 then Some (length (parents_of self.old)) else None) }
+        ensures value { result ≡ (if nat_lt parent (length (parents_of self.old)) && nat_lt (length (parents_of self.old)) 4096 then Some (length (parents_of self.old)) else None) }
         ensures parents { parents_of self.new ≡ (if is_some result then parents_of self.old ++ parent ∷ [] else parents_of self.old) }
         ensures heights { heights_of self.new ≡ (if is_some result then height_added (heights_of self.old) parent else heights_of self.old) }
         ensures kept { Extends (pages_of self.old) (pages_of self.new) (length (parents_of self.old)) }

@@ -1,7 +1,7 @@
 -- Bytes read from digits and written as digits, one after the other, and parts put behind one another.
 use Rattle.std.proofs.Common.{◌≡◌, ℕ, suc, ◌+◌, ◌*◌, ◌/◌, ◌%◌, ◌<◌, ◌≤◌, List, [], ◌∷◌, ◌++◌, length, get_or, drop, Some, None, Option, sym, refl, ap, ◌∙◌, append_assoc, append-nil, arith}
 use Rattle.std.proofs.lemmas.List.{drop_more, drop_all, at_drop_more, at_drop_all}
-use Rattle.text.specs.Hex.{hex_byte, hex_digit}
+use Rattle.text.specs.Hex.{hex_byte, hex_digit_of}
 use Rattle.vectors.specs.Messages.{front, begun, bytes_of, times, written}
 
 begun_none : (b : Option ℕ) → None ≡ begun b None
@@ -45,11 +45,11 @@ bytes_all digits xs i inv h = ap Some (sym (append-nil xs)) ∙ sym (ap (λ t. f
 
 -- The turns of the loop that writes bytes as digits: out was written before the byte numbered i.
 
-pub digits_more : (bytes out : List ℕ) (i : ℕ) {all pair out' : List ℕ} → out ++ written (drop i bytes) ≡ all → i < length bytes → pair ≡ hex_digit (get_or bytes i 0 / 16) ∷ hex_digit (get_or bytes i 0 % 16) ∷ [] → out' ≡ out ++ pair → out' ++ written (drop (i + 1) bytes) ≡ all
+pub digits_more : (bytes out : List ℕ) (i : ℕ) {all pair out' : List ℕ} → out ++ written (drop i bytes) ≡ all → i < length bytes → pair ≡ hex_digit_of (get_or bytes i 0 / 16) ∷ hex_digit_of (get_or bytes i 0 % 16) ∷ [] → out' ≡ out ++ pair → out' ++ written (drop (i + 1) bytes) ≡ all
 unfolding written
 digits_more bytes out i inv h e grown =
     ap (λ t. t ++ written (drop (i + 1) bytes)) (grown ∙ ap (λ p. out ++ p) e)
-    ∙ append_assoc out (hex_digit (get_or bytes i 0 / 16) ∷ hex_digit (get_or bytes i 0 % 16) ∷ []) (written (drop (i + 1) bytes))
+    ∙ append_assoc out (hex_digit_of (get_or bytes i 0 / 16) ∷ hex_digit_of (get_or bytes i 0 % 16) ∷ []) (written (drop (i + 1) bytes))
     ∙ sym (at_drop_more (λ t. out ++ written t) bytes i 0 h) ∙ inv
 
 pub digits_all : (bytes out : List ℕ) (i : ℕ) {all : List ℕ} → out ++ written (drop i bytes) ≡ all → length bytes ≤ i → out ≡ all

@@ -1,7 +1,7 @@
 -- The messages that lines describe, and what is answered to them.
 use Rattle.std.specs.Prelude.{ℕ, zero, suc, ◌*◌, ◌/◌, ◌%◌, cond, List, [], ◌∷◌, ◌++◌, length, Some, None, codes, Option, nat_lt}
 use Rattle.digest.specs.Sha256.{sha256_of}
-use Rattle.text.specs.Hex.{hex_byte, hex_digit}
+use Rattle.text.specs.Hex.{hex_byte, hex_digit_of}
 use Rattle.text.specs.Numbers.{decimal_of}
 use Rattle.text.specs.Words.{words}
 
@@ -48,7 +48,7 @@ message_of line = spelled (words line)
 -- the digits that write bytes
 unfoldable pub written : List ℕ → List ℕ
 written [] = []
-written (b ∷ bs) = hex_digit (b / 16) ∷ hex_digit (b % 16) ∷ written bs
+written (b ∷ bs) = hex_digit_of (b / 16) ∷ hex_digit_of (b % 16) ∷ written bs
 
 abbrev pub answered : Option (List ℕ) → List ℕ
 answered None = codes "refused 1\n"

@@ -1,5 +1,5 @@
 -- The message's whole blocks and those of its padded end are the blocks of the padded message.
-use Rattle.std.proofs.Common.{◌≡◌, ◌*◌, ◌/◌, ◌%◌, ◌^◌, length, ap, ◌∙◌}
+use Rattle.std.proofs.Common.{◌*◌, ◌/◌, ◌%◌, ◌^◌, length, ap, ◌∙◌}
 use Rattle.std.proofs.lemmas.List.{take_rest}
 use Rattle.digest.specs.Sha256.{bytes_of, ended, hashed, initial, sha256_of}
 use Rattle.digest.proofs.Blocks.{all_blocks}

@@ -1,7 +1,6 @@
 -- The 48 steps and the 16 rounds that follow are all of the block's work.
-use Rattle.std.proofs.Common.{◌≡◌, sym, refl, ap, ◌∙◌}
-use Rattle.digest.specs.Sha256.{added, block_words, compressed, rounds, schedule}
-use Rattle.digest.specs.Going.{Going}
+use Rattle.std.proofs.Common.{sym, refl, ap, ◌∙◌}
+use Rattle.digest.specs.Sha256.{added, block_words, compressed, rounds}
 use Rattle.digest.proofs.Scheduled.{going_none, going_all}
 use Rattle.digest.proofs.block.compress.Goals as goal
 

@@ -1,5 +1,5 @@
 -- One round after the other.
-use Rattle.std.proofs.Common.{◌≡◌, ℕ, ◌+◌, arith}
+use Rattle.std.proofs.Common.{◌+◌, arith}
 use Rattle.digest.proofs.Scheduled.{rounds_more}
 use Rattle.digest.proofs.block.eight_rounds.Goals as goal
 

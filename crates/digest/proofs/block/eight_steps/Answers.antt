@@ -1,5 +1,5 @@
 -- One step after the other.
-use Rattle.std.proofs.Common.{ℕ, ◌+◌, arith}
+use Rattle.std.proofs.Common.{◌+◌, arith}
 use Rattle.digest.proofs.Scheduled.{going_more}
 use Rattle.digest.proofs.block.eight_steps.Goals as goal
 

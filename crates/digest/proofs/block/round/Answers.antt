@@ -1,6 +1,6 @@
 -- The two sums of a round, from what the four functions on words give.
 use Rattle.digest.specs.Words.{add32}
-use Rattle.digest.specs.Sha256.{round_of, t1}
+use Rattle.digest.specs.Sha256.{round_of}
 use Rattle.digest.proofs.block.round.Goals as goal
 
 pub returns : goal.returns

@@ -1,5 +1,5 @@
 -- The padded end has one block or two.
-use Rattle.std.proofs.Common.{◌≡◌, take, drop, ap, ◌∙◌}
+use Rattle.std.proofs.Common.{take, drop, ap, ◌∙◌}
 use Rattle.digest.specs.Sha256.{compressed}
 use Rattle.digest.proofs.Blocks.{one_block, two_blocks}
 use Rattle.digest.proofs.padding.last_blocks.Goals as goal

@@ -1,4 +1,4 @@
-use Rattle.std.proofs.Common.{arith, rules}
+use Rattle.std.proofs.Common.{arith}
 use Rattle.index.proofs.Chained.{headed_none, linked_none}
 use Rattle.index.proofs.Index.new.Goals as goal
 

@@ -2,7 +2,7 @@
 use Rattle.std.proofs.Common.{◌∙◌, arith}
 use Rattle.std.proofs.lemmas.List.{take_rest}
 use Rattle.pages.specs.Bytes.{count_of, height_of, parent_of, receipts_of}
-use Rattle.pages.proofs.Codec.{cut_short, formed, other_kind, other_length, too_many, known_apart}
+use Rattle.pages.proofs.Codec.{cut_short, other_kind, other_length, too_many, known_apart}
 use Rattle.pages.proofs.parts.decode.Goals as goal
 use Rattle.pages.proofs.parts.decode.Goals.{then-bytes-lt-RECEIPTS_AT-via-then-bytes-lt-RECEIPTS_AT, then-bytes-lt-RECEIPTS_AT-via-else-bytes-lt-RECEIPTS_AT+then-bytes-ne-KIND}
 use Rattle.pages.proofs.parts.decode.Goals.{then-count-gt-MOST_RECEIPTS-via-then-count-gt-MOST_RECEIPTS, then-count-gt-MOST_RECEIPTS-via-else-count-gt-MOST_RECEIPTS+then-bytes-count}

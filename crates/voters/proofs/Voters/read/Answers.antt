@@ -1,5 +1,5 @@
 use Rattle.std.specs.Str.{bytes_eq}
-use Rattle.std.proofs.Common.{◌≤◌, sum, refl, sym, ◌∙◌, arith}
+use Rattle.std.proofs.Common.{◌≤◌, sum, sym, ◌∙◌, arith}
 use Rattle.std.proofs.lemmas.Slice.Eq.{bytes_eq-Decides}
 use Rattle.std.proofs.lemmas.Bool.{not-false}
 use Rattle.voters.proofs.Rows.{row_light, row_some, named, named_only, unnamed}
