@@ -1,6 +1,6 @@
 -- The bytes of a page: a kind, its height, the digest of its parent, the receipts' length, and the receipts.
 use Rattle.std.specs.Prelude.{◌≡◌, ℕ, ◌+◌, ◌*◌, ◌/◌, ◌%◌, ◌^◌, ◌<◌, ◌≤◌, Bool, true, ◌&&◌, List, [], ◌∷◌, ◌++◌, length, take, drop, replicate, ◌==◌, nat_le, slice_index}
-use Rattle.std.specs.List.{AllByRecursion as All}
+use Rattle.std.specs.List.{AllByRecursion}
 
 -- a number in four bytes and in two, high byte first
 abbrev pub four : ℕ → List ℕ
@@ -51,5 +51,5 @@ DecodesEncoded =
 -- Well-formed bytes are those of a page, and its parts encode to them.
 abbrev pub EncodesDecoded : Type 0
 EncodesDecoded =
-    (b : List ℕ) → All (λ x. x < 256) b → well_formed b ≡ true →
+    (b : List ℕ) → AllByRecursion (λ x. x < 256) b → well_formed b ≡ true →
     Writable (height_of b) (parent_of b) (receipts_of b) × (encoded (height_of b) (parent_of b) (receipts_of b) ≡ b)

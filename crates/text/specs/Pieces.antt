@@ -1,10 +1,10 @@
 -- How a byte c parts an input.
 use Rattle.std.specs.Prelude.{◌≡◌, ℕ, ◌<◌, ◌≤◌, cond, ◌⊎◌, List, [], ◌∷◌, ◌++◌, length, take, ◌==◌, ◌≢◌, slice_index}
-use Rattle.std.specs.List.{AllByRecursion as All}
+use Rattle.std.specs.List.{AllByRecursion}
 
 -- no byte of xs is c
 abbrev pub Free : ℕ → List ℕ → Type 0
-Free c xs = All (λ b. b ≢ c) xs
+Free c xs = AllByRecursion (λ b. b ≢ c) xs
 
 -- the first c of s stands at n, or n is the length of s and there is none
 pub record First (c : ℕ) (s : List ℕ) (n : ℕ) : Type 0 where

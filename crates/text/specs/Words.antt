@@ -1,6 +1,6 @@
 -- The words of a line: the longest runs of bytes that are not a space (32).
 use Rattle.std.specs.Prelude.{◌≡◌, ℕ, ◌<◌, Bool, true, false, ◌⊎◌, List, [], ◌∷◌, ◌++◌, length, filter, slice_index}
-use Rattle.std.specs.List.{AllByRecursion as All}
+use Rattle.std.specs.List.{AllByRecursion}
 use Rattle.text.specs.Pieces.{Free, pieces}
 
 abbrev pub non_empty : List ℕ → Bool
@@ -13,7 +13,7 @@ words s = filter non_empty (pieces 32 s)
 
 -- only spaces
 abbrev pub Blank : List ℕ → Type 0
-Blank xs = All (λ b. b ≡ 32) xs
+Blank xs = AllByRecursion (λ b. b ≡ 32) xs
 
 -- word is what stands at the front of s up to a space, and rest what follows it: nothing, or a space and more
 pub record Word (s word rest : List ℕ) : Type 0 where

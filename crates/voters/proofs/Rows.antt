@@ -1,6 +1,6 @@
 -- Rows of weights, filled from the left by the words of a line.
 use Rattle.std.proofs.Common.{◌≡◌, ℕ, suc, ◌+◌, ◌<◌, ◌≤◌, List, [], ◌∷◌, ◌++◌, map, length, get_or, take, drop, set, replicate, Some, None, codes, sum, Option, sym, refl, ap, ◌∙◌, subst, inl, inr, append_assoc, arith, length-append, length-set, length-take}
-use Rattle.std.specs.List.{AllByRecursion as All}
+use Rattle.std.specs.List.{AllByRecursion}
 use Rattle.std.proofs.ByRecursion.{All-get_or, All-push, All-take, All-from_get_or, sum_by_le}
 use Rattle.std.proofs.lemmas.List.{length-take-le, get_or_at, get_or-drop, get_or-take, get_or-set_other, get_or-replicate, get_or_past, take_more_set, map_push}
 use Rattle.std.proofs.lemmas.Bool.{cases_lt}
@@ -14,7 +14,7 @@ pub record Filling (ws left : List (List ℕ)) (row : List ℕ) (n : ℕ) : Type
   pub values : map decimal_of ws ≡ map Some (take n row) ++ map decimal_of left
   pub few : n ≤ 64
   pub long : length row ≡ 64
-  pub light : All (λ w. w ≤ 1000000) (take n row)
+  pub light : AllByRecursion (λ w. w ≤ 1000000) (take n row)
   pub past : (k : ℕ) → n ≤ k → get_or row k 0 ≡ 0
 
 pub filling_none : (ws : List (List ℕ)) → Filling ws ws (replicate 64 0) 0
@@ -27,7 +27,7 @@ filling_more ws left row n w x f e small room =
       values = f.values ∙ ap (λ o. map Some (take n row) ++ (o ∷ map decimal_of left)) e ∙ sym (append_assoc (map Some (take n row)) (Some x ∷ []) (map decimal_of left)) ∙ ap (λ t. t ++ map decimal_of left) (sym (ap (map Some) here ∙ map_push Some (take n row) x));
       few = let a = f.few in omega arith;
       long = length-set row n x ∙ f.long;
-      light = subst (λ t. All (λ w. w ≤ 1000000) t) (sym here) (All-push (λ w. w ≤ 1000000) (take n row) x f.light small);
+      light = subst (λ t. AllByRecursion (λ w. w ≤ 1000000) t) (sym here) (All-push (λ w. w ≤ 1000000) (take n row) x f.light small);
       past = λ k h. get_or-set_other row n k x 0 (λ e. omega arith) ∙ f.past k (omega arith);
     } where
       here : take (n + 1) (set row n x) ≡ take n row ++ x ∷ []
@@ -53,7 +53,7 @@ filling_heavy ws left row n w v f e heavy xs l = go (found ws left row n w xs f 
   go : (x : ℕ) × (ys : List ℕ) × (decimal_of w ≡ Some x) × (xs ≡ take n row ++ x ∷ ys) → ⊥
   go (x, ys, p, q) =
       let s : x ≡ v = cc in
-      let h = All-get_or (λ w. w ≤ 1000000) (take n row ++ x ∷ ys) (length (take n row)) 0 (simp length-append (omega arith)) (subst (λ t. All (λ w. w ≤ 1000000) t) q l.light) in
+      let h = All-get_or (λ w. w ≤ 1000000) (take n row ++ x ∷ ys) (length (take n row)) 0 (simp length-append (omega arith)) (subst (λ t. AllByRecursion (λ w. w ≤ 1000000) t) q l.light) in
       let g = get_or_at (take n row) x ys 0 (length (take n row)) refl in
       omega arith
 

@@ -1,6 +1,6 @@
 -- The weights of voters, and the line that names them.
 use Rattle.std.specs.Prelude.{◌≡◌, ℕ, ◌≤◌, List, ◌∷◌, map, length, take, Some, codes, sum, slice_index}
-use Rattle.std.specs.List.{AllByRecursion as All}
+use Rattle.std.specs.List.{AllByRecursion}
 use Rattle.text.specs.Numbers.{decimal_of}
 use Rattle.text.specs.Words.{words}
 use Rattle.voters.specs.declared.Voters.{Voters}
@@ -21,7 +21,7 @@ total_of v = sum (weights_of v)
 pub record Lists (ws : List (List ℕ)) (xs : List ℕ) : Type 0 where
   pub values : map decimal_of ws ≡ map Some xs
   pub few : length xs ≤ 64
-  pub light : All (λ w. w ≤ 1000000) xs
+  pub light : AllByRecursion (λ w. w ≤ 1000000) xs
 
 -- the line gives the voters the weights xs: the word 'weights', then one number or more and nothing else, not all of them 0
 pub record Names (line xs : List ℕ) : Type 0 where
