@@ -7,7 +7,7 @@ fn main() {
     let archive = variable("PROVED_ARCHIVE");
     link(archive.as_deref().unwrap_or(concat!(
         env!("CARGO_MANIFEST_DIR"),
-        "/../target/staticlib/libexports.a"
+        "/../crates/exports/out/libexports.a"
     )));
     // After the proved archive, since it serves that one.
     if let Some(archive) = variable("RATTLE_C_ARCHIVE") {

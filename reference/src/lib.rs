@@ -13,16 +13,18 @@
 //! | [`weights`] | the voters' weights, as the first line gives them |
 //! | [`pages`] | a page's parts, bytes and digest |
 //! | [`book`] | the pages that are there and those that wait |
-//! | [`numbers`], [`script`] | a script in small numbers: the pages that they stand for, and what `rehearse` prints |
+//! | [`numbers`] | the pages that a script's small numbers stand for; [`script`] doesn't ask for them yet |
+//! | [`script`] | a script in small numbers: what `rehearse` prints for it |
 //! | [`random`], [`make`], [`trees`] | for the makers of input: a generator that repeats itself, lines, trees of pages |
 //!
 //! Votes, settling, the search for proofs and the guard each get a module of
 //! their own, between [`book`] and [`numbers`].
 //!
-//! The programs in `src/bin` only read, call and print. `vectors`, `rehearse`
-//! and `intake` are named as the proved ones. Random input for them is printed
-//! by `make-messages`, `make-scripts` and `make-pages`; `make-trees` prints the
-//! same pages in several orders.
+//! The programs in `src/bin` only read, call and print. `vectors` and
+//! `rehearse` are named as the proved ones; `intake` takes pages and has no
+//! proved twin yet. Random input for the three is printed by `make-messages`,
+//! `make-scripts` and `make-pages`; `make-trees` prints the same pages in
+//! several orders.
 
 #![forbid(unsafe_code)]
 

@@ -1,6 +1,7 @@
 //! `make-messages SEED COUNT` prints COUNT random lines for `vectors`.
 
-use reference::make::{BAD_NUMBERS, arguments, mixed_digits, spoiled};
+use reference::hex;
+use reference::make::{BAD_NUMBERS, arguments};
 use reference::random::Random;
 use std::io::{self, BufWriter, Write};
 use std::process::ExitCode;
@@ -69,8 +70,13 @@ fn times(random: &mut Random) -> usize {
 
 /// The digits of `len` random bytes, each in either case.
 fn digits(random: &mut Random, len: usize) -> String {
-    let bytes = random.bytes(len);
-    mixed_digits(random, &bytes)
+    hex::encode(&random.bytes(len))
+        .chars()
+        .map(|digit| match random.chance(50) {
+            true => digit.to_ascii_uppercase(),
+            false => digit,
+        })
+        .collect()
 }
 
 /// The line with zeros, spaces or a carriage return that change nothing.
@@ -98,10 +104,18 @@ fn malformed(random: &mut Random) -> Vec<u8> {
         2 => format!("{} {digits}", random.pick(&BAD_NUMBERS)).into(),
         3 => random.pick(&BAD_NUMBERS).into(),
         4 => format!("1 {}", &digits[1..]).into(),
-        5 => [b"1 ", &spoiled(random, &digits)[..]].concat(),
+        5 => spoiled(random, format!("1 {digits}")),
         6 => format!("1000000 {digits}{}", "00".repeat(16)).into(),
         7 => format!("1\t{digits}").into(),
         8 => format!("1 {digits}\r\r").into(),
         _ => format!("{digits}z 1").into(),
     }
+}
+
+/// The line with one of its last digits made a byte that is none.
+fn spoiled(random: &mut Random, line: String) -> Vec<u8> {
+    let mut line = line.into_bytes();
+    let at = random.between(2, line.len() - 1);
+    line[at] = random.pick(b"/:@G`g\0\t\r-\x7f\x80\xff");
+    line
 }

@@ -1,14 +1,11 @@
 //! `make-scripts SEED` prints one random script for `rehearse`.
 
-use reference::make::{BAD_NUMBERS, arguments, joined, random_line, spaced, with_stray_byte};
+use reference::make::{BAD_NUMBERS, arguments};
 use reference::random::Random;
-use reference::trees::{disorder, tree};
 use std::io::{self, Write};
 use std::process::ExitCode;
 
-const BAD_WEIGHTS_PERCENT: usize = 25;
-/// Scripts of trees of pages; the others have lines of all kinds.
-const TREE_PERCENT: usize = 60;
+const BAD_WEIGHTS_PERCENT: usize = 33;
 const MOST_LINES: usize = 40;
 
 fn main() -> io::Result<ExitCode> {
@@ -32,14 +29,50 @@ fn script(random: &mut Random) -> Vec<u8> {
         return Vec::new();
     };
     let mut lines = vec![first];
-    if random.chance(TREE_PERCENT) {
-        lines.extend(tree_lines(random));
-    } else {
-        for _ in 0..random.between(0, MOST_LINES) {
-            lines.push(line(random));
-        }
+    for _ in 0..random.between(0, MOST_LINES) {
+        lines.push(line(random));
     }
     joined(random, &lines)
+}
+
+/// Each line ends in a newline, before which there may be a carriage return;
+/// the last one may have none.
+fn joined(random: &mut Random, lines: &[Vec<u8>]) -> Vec<u8> {
+    let mut script = Vec::new();
+    for line in lines {
+        script.extend(line);
+        script.extend(match random.chance(5) {
+            true => &b"\r\n"[..],
+            false => b"\n",
+        });
+    }
+    if random.chance(15) {
+        script.pop();
+    }
+    script
+}
+
+/// The words parted by one space mostly, with spaces around them now and then.
+fn spaced(random: &mut Random, name: &str, words: &[String]) -> Vec<u8> {
+    let mut line = vec![b' '; edge(random)];
+    line.extend(name.bytes());
+    for word in words {
+        let gap = match random.chance(5) {
+            true => random.between(2, 5),
+            false => 1,
+        };
+        line.extend(vec![b' '; gap]);
+        line.extend(word.bytes());
+    }
+    line.extend(vec![b' '; edge(random)]);
+    line
+}
+
+fn edge(random: &mut Random) -> usize {
+    match random.chance(5) {
+        true => random.between(1, 3),
+        false => 0,
+    }
 }
 
 /// 1 to 64 weights, one of which, whichever it is, isn't 0.
@@ -107,92 +140,11 @@ const BAD_NAMES: [&str; 8] = [
     "\u{feff}weights",
 ];
 
-/// A number, and the one that it lies on.
-type Pair = (u32, u32);
-
-/// A tree of pages with some pairs that don't belong to it, and seldom other
-/// lines in between.
-fn tree_lines(random: &mut Random) -> Vec<Vec<u8>> {
-    let mut pairs = tree_pairs(random);
-    disorder(random, &mut pairs);
-    for _ in 0..random.below(4) {
-        let strays = stray_pairs(random, &pairs);
-        scatter(random, &mut pairs, strays);
-    }
-    if random.chance(20) {
-        pairs.extend_from_within(..);
-    }
-    let mut lines = Vec::new();
-    for (number, parent) in pairs {
-        if random.chance(2) {
-            lines.push(line(random));
-        }
-        let words = [number, parent].map(|number| decimal(random, number));
-        lines.push(spaced(random, "page", &words));
-    }
-    lines
-}
-
-/// A whole tree, each pair after that of its parent; seldom one of more pages
-/// than a book holds.
-fn tree_pairs(random: &mut Random) -> Vec<Pair> {
-    let count = match random.below(100) {
-        0..60 => random.between(1, 40),
-        60..95 => random.between(41, 300),
-        _ => random.between(4_090, 4_250),
-    };
-    let mut names = vec![0];
-    names.extend(match random.below(3) {
-        0 => (1..=count as u32).rev().collect(),
-        1 => (0..count).map(|_| random.bits() as u32).collect(),
-        _ => (1..=count as u32).collect::<Vec<_>>(),
-    });
-    tree(random, count)
-        .into_iter()
-        .zip(&names[1..])
-        .map(|(on, &name)| (name, names[on]))
-        .collect()
-}
-
-/// Pairs of one kind that leave a tree as it is, or contradict it.
-fn stray_pairs(random: &mut Random, pairs: &[Pair]) -> Vec<Pair> {
-    let count = random.pick(&[1, 2, 5, 63, 64, 65, 80]);
-    let start = random.bits() as u32;
-    let fresh = |at: usize| start.wrapping_add(at as u32);
-    let (number, parent) = random.pick(pairs);
-    match random.below(8) {
-        // The same lines again.
-        0 | 1 => (0..count).map(|_| random.pick(pairs)).collect(),
-        // Other parents.
-        2 => (0..count).map(|at| (number, fresh(at))).collect(),
-        3 => vec![(number, parent.wrapping_add(1)), (number, number)],
-        4 => vec![(0, 0), (0, number)],
-        // On a page that is nowhere.
-        5 => (0..count).map(|at| (fresh(at), fresh(count))).collect(),
-        // One chain that ends nowhere.
-        6 => (0..count).map(|at| (fresh(at), fresh(at + 1))).collect(),
-        // A circle, and a page on top of it.
-        _ => (0..count)
-            .map(|at| (fresh(at), fresh((at + 1) % count)))
-            .chain([(fresh(count), fresh(0))])
-            .collect(),
-    }
-}
-
-/// Puts the strays anywhere, or all at the beginning or the end.
-fn scatter(random: &mut Random, pairs: &mut Vec<Pair>, strays: Vec<Pair>) {
-    let fixed = random.pick(&[None, None, Some(0), Some(pairs.len())]);
-    for stray in strays {
-        let at = fixed.unwrap_or_else(|| random.below(pairs.len() + 1));
-        pairs.insert(at, stray);
-    }
-}
-
-fn decimal(random: &mut Random, number: u32) -> String {
-    match random.chance(2) {
-        true => format!("{number:030}"),
-        false => number.to_string(),
-    }
+/// A byte that is neither a digit nor a space nor ends a line, anywhere within.
+fn with_stray_byte(random: &mut Random, mut line: Vec<u8>) -> Vec<u8> {
+    let at = random.below(line.len());
+    line.insert(at, random.pick(b"\0\t\r/:x\x7f\x80\xff"));
+    line
 }
 
 fn line(random: &mut Random) -> Vec<u8> {
@@ -234,4 +186,12 @@ fn small_number(random: &mut Random) -> String {
         2 => random.below(5_000).to_string(),
         _ => random.below(10).to_string(),
     }
+}
+
+/// Bytes of any value, but none that ends a line.
+fn random_line(random: &mut Random) -> Vec<u8> {
+    let len = random.between(1, 60);
+    let mut line = random.bytes(len);
+    line.retain(|&byte| byte != b'\n');
+    line
 }
