@@ -1,11 +1,13 @@
 // What the programs share at their edges: why one stops early, and standard input read whole.
 #![tactic(auto)]
 
-ghost use Rattle.std.specs.Prelude.{◌≡◌};
+ghost use Rattle.std.specs.Prelude.{◌≡◌, OnErr, OnOk};
+ghost use Rattle.std.specs.Process.{exit_status};
 ghost use Rattle.console.specs.declared.Fault.TheVariants.{Io, Memory};
 
 use std::alloc::AllocError;
 use std::io::Read;
+use std::process::ExitCode;
 use std::{fmt, io};
 
 /// Why a program stops early. What it then says on standard error is the fault's text.
@@ -69,5 +71,16 @@ pub fn tell(rt: &HostRuntime, program: &str, outcome: Result<(), Fault>) -> Resu
             let _ = eprintln!(rt; "{program}: {fault}");
             Err(fault)
         }
+    }
+}
+
+/// Says why a program stops early, if it does, and gives the status that it then ends with.
+pub fn end(rt: &HostRuntime, program: &str, outcome: Result<(), Fault>) -> ExitCode
+    ensures success { OnOk outcome (exit_status result ≡ 0) }
+    ensures failure { OnErr outcome (exit_status result ≡ 1) }
+{
+    match tell(rt, program, outcome) {
+        Ok(()) => ExitCode::SUCCESS,
+        Err(_) => ExitCode::FAILURE,
     }
 }

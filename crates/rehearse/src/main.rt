@@ -10,6 +10,7 @@ use answers::{answer_line, report};
 use console::Fault;
 use std::fmt;
 use std::io::Write;
+use std::process::ExitCode;
 use voters::Voters;
 
 const BAD_WEIGHTS: &str =
@@ -18,9 +19,9 @@ const BAD_WEIGHTS: &str =
 // Answers go out whenever this many bytes of them are there: they can be many times as long as the script.
 const PIECE: usize = 65_536;
 
-fn main(rt: HostRuntime) -> Result<(), Fault> {
+fn main(rt: HostRuntime) -> ExitCode {
     let outcome = run(&rt);
-    console::tell(&rt, "rehearse", outcome)
+    console::end(&rt, "rehearse", outcome)
 }
 
 fn run(rt: &HostRuntime) -> Result<(), Fault> {

@@ -8,10 +8,11 @@ mod messages;
 use answers::answer_piece;
 use console::Fault;
 use std::io::Write;
+use std::process::ExitCode;
 
-fn main(rt: HostRuntime) -> Result<(), Fault> {
+fn main(rt: HostRuntime) -> ExitCode {
     let outcome = run(&rt);
-    console::tell(&rt, "vectors", outcome)
+    console::end(&rt, "vectors", outcome)
 }
 
 fn run(rt: &HostRuntime) -> Result<(), Fault> {
