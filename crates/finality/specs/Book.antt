@@ -1,6 +1,6 @@
 -- A book's columns: the tree that parents and heights stand for, and marks made in one pass over links.
 -- Assumes nothing.
-use Rattle.std.specs.Prelude.{◌≡◌, ℕ, ◌+◌, ◌<◌, ◌≤◌, Bool, true, false, cond, ◌&&◌, ◌↔◌, List, [], ◌∷◌, ◌++◌, length, get_or, replicate, nat_le, slice_index, slice_index_or, slice_set}
+use Rattle.std.specs.Prelude.{◌≡◌, ℕ, ◌+◌, ◌<◌, ◌≤◌, Bool, true, false, cond, ◌&&◌, ◌↔◌, List, [], ◌∷◌, ◌++◌, length, replicate, nat_le, slice_index, slice_index_or, slice_set}
 use Rattle.finality.specs.declared.Link.{Link}
 use Rattle.finality.specs.declared.Vote.{Vote}
 use Rattle.finality.specs.Tree.{Grown, Tree, Under}
@@ -16,7 +16,7 @@ tree_of ps hs = record { parent = λ b. slice_index ps b; height = λ b. slice_i
 pub record Book (ps hs : List ℕ) : Type 0 where
   pub same : length hs ≡ length ps
   pub some : 1 ≤ length ps
-  pub first : get_or hs 0 1 ≡ 0
+  pub first : slice_index_or hs 0 1 ≡ 0
   pub below : (b : ℕ) → 1 ≤ b → b < length ps → slice_index ps b < b
   pub up : (b : ℕ) → 1 ≤ b → b < length ps → slice_index_or hs b 1 ≡ slice_index_or hs (slice_index ps b) 1 + 1
 

@@ -1,5 +1,5 @@
 -- The number under which a key was entered last.
-use Rattle.std.specs.Prelude.{◌≡◌, ℕ, zero, suc, ◌+◌, ◌*◌, ◌<◌, Bool, cond, List, [], length, get_or, Some, None, Option, ◌≢◌, slice_index, slice_index_or}
+use Rattle.std.specs.Prelude.{◌≡◌, ℕ, zero, suc, ◌+◌, ◌*◌, ◌<◌, Bool, cond, List, [], length, Some, None, Option, ◌≢◌, slice_index, slice_index_or}
 use Rattle.std.specs.Str.{bytes_eq}
 
 -- one more than the last number below n of which a test holds; 0 if it holds of none
@@ -23,7 +23,7 @@ bucket d = slice_index d 0 * 256 + slice_index d 1
 -- key n is d, and no later key is
 pub record LastAt (ks : List (List ℕ)) (d : List ℕ) (n : ℕ) : Type 0 where
   pub within : n < length ks
-  pub equal : get_or ks n [] ≡ d
+  pub equal : slice_index_or ks n [] ≡ d
   pub after : (m : ℕ) → n < m → m < length ks → slice_index_or ks m [] ≢ d
 
 abbrev pub Nowhere : List (List ℕ) → List ℕ → Type 0
