@@ -1,9 +1,10 @@
 -- A message's blocks: its own and, behind them, the one or two of its padded end.
 -- Assumes nothing.
-use Rattle.std.proofs.Common.{◌≡◌, ℕ, zero, suc, ◌+◌, ◌-◌, ◌*◌, ◌/◌, ◌%◌, ◌<◌, ◌≤◌, List, ◌∷◌, ◌++◌, length, take, drop, replicate, sym, refl, ap, ◌∙◌, append_assoc, add-zero, add-suc, add-one, arith}
-use Rattle.std.proofs.lemmas.List.{drop-append-le, drop_at, drop-drop, drop-take, length-append, length-drop, length-replicate, length-take-le, take_all, take-append-drop, take-append-le, take_at, take-take}
+use Rattle.std.proofs.Common.{◌≡◌, ℕ, zero, suc, ◌+◌, ◌-◌, ◌*◌, ◌/◌, ◌%◌, ◌<◌, ◌≤◌, List, ◌∷◌, ◌++◌, length, take, drop, replicate, fold, sym, refl, ap, ◌∙◌, append_assoc, add-zero, add-suc, arith}
+use Rattle.std.proofs.lemmas.List.{drop-append-le, drop_at, drop-drop, length-append, length-drop, length-replicate, length-take-le, take-append-drop, take-append-le, take_at}
+use Rattle.std.specs.Simd.{first_chunks}
 use Rattle.digest.specs.declared.block.State.{State}
-use Rattle.digest.specs.Sha256.{block_at, bytes8, compressed, ended, hashed, zeros}
+use Rattle.digest.specs.Sha256.{bytes8, compressed, ended, hashed, zeros}
 
 -- the end has the message's rest, and nine bytes and the zeros more
 length-ended : (r : List ℕ) (bits : ℕ) → length (ended r bits) ≡ length r + (9 + zeros (length r))
@@ -12,42 +13,14 @@ length-ended r bits =
     length-append r _ ∙ ap (λ n. length r + suc n) (length-append (replicate (zeros (length r)) 0) (bytes8 bits)) ∙
     omega (arith, length-replicate {A = ℕ} (zeros (length r)) 0)
 
--- the end as it stands in the first size bytes of an array, where size is what it comes to
-module _ (r : List ℕ) (bits : ℕ) where
-  tail : ℕ → List ℕ
-  tail n = r ++ 128 ∷ (replicate n 0 ++ bytes8 bits)
-
-  ended_is : (e : List ℕ) (n : ℕ) → n ≡ zeros (length r) → e ≡ tail n → ended r bits ≡ e
-  unfolding ended tail
-  ended_is e n z w = sym (w ∙ ap tail z)
-
-  module _ (s : State) (e : List ℕ) where
-    pub one_block : length r < 56 → take 64 e ≡ r ++ 128 ∷ (replicate (64 - 9 - length r) 0 ++ bytes8 bits) →
-        compressed s (take 64 e) ≡ hashed s (ended r bits) (length (ended r bits) / 64)
-    unfolding hashed tail
-    one_block h w =
-        let z : 64 - 9 - length r ≡ zeros (length r) = omega arith in
-        let same = ended_is (take 64 e) (64 - 9 - length r) z w in
-        let long : length (ended r bits) ≡ 64 = length-ended r bits ∙ omega arith in
-        let whole : take 64 (ended r bits) ≡ ended r bits = take_all 64 (ended r bits) (omega (arith, long)) in
-        sym (ap (λ n. hashed s (ended r bits) (n / 64)) long ∙ ap (compressed s) (whole ∙ same))
-
-    pub two_blocks : 56 ≤ length r → length r < 64 → take 128 e ≡ r ++ 128 ∷ (replicate (128 - 9 - length r) 0 ++ bytes8 bits) →
-        compressed (compressed s (take 64 e)) (take 64 (drop 64 e)) ≡ hashed s (ended r bits) (length (ended r bits) / 64)
-    unfolding hashed tail
-    two_blocks low high w =
-        let z : 128 - 9 - length r ≡ zeros (length r) = omega arith in
-        let same = ended_is (take 128 e) (128 - 9 - length r) z w in
-        let long : length (ended r bits) ≡ 128 = length-ended r bits ∙ omega arith in
-        let one : take 64 (ended r bits) ≡ take 64 e = ap (take 64) same ∙ take-take 64 128 e (omega arith) in
-        let two : take 64 (drop 64 (ended r bits)) ≡ take 64 (drop 64 e) =
-        ap (λ l. take 64 (drop 64 l)) same ∙ ap (take 64) (drop-take 64 64 e) ∙ take-take 64 64 (drop 64 e) (omega arith) in
-        sym (ap (λ n. hashed s (ended r bits) (n / 64)) long ∙ (λ i. compressed (compressed s (one i)) (two i)))
-
--- one block more of a message's own
-pub hashed_more : (s x y : State) (m b : List ℕ) (i : ℕ) → x ≡ hashed s m i → b ≡ block_at m i → y ≡ compressed x b → y ≡ hashed s m (i + 1)
+-- n blocks more, from the t-th on
+pub chunks_hashed : (s : State) (m : List ℕ) (t n : ℕ) → fold compressed (hashed s m t) (first_chunks 64 n (drop (64 * t) m)) ≡ hashed s m (t + n)
 unfolding hashed
-hashed_more s x y m b i p q r = r ∙ (λ k. compressed (p k) (q k)) ∙ sym (ap (hashed s m) (add-one i))
+chunks_hashed s m t zero = sym (ap (hashed s m) (add-zero t))
+chunks_hashed s m t (suc n) =
+    let next : drop 64 (drop (64 * t) m) ≡ drop (64 * suc t) m = drop-drop 64 (64 * t) m ∙ ap (λ k. drop k m) (omega arith) in
+    let e : suc t + n ≡ t + suc n = omega arith in
+    ap (λ l. fold compressed (hashed s m (suc t)) (first_chunks 64 n l)) next ∙ chunks_hashed s m (suc t) n ∙ ap (hashed s m) e
 
 -- the blocks that lie wholly in the first part of a list are those of that part
 front_blocks : (s : State) (p t : List ℕ) (q : ℕ) → 64 * q ≤ length p → hashed s (p ++ t) q ≡ hashed s p q

@@ -1,5 +1,7 @@
-mod Filled
-mod Scheduled
+mod Schedule
+mod Rounds
+mod Made
+mod Fours
 mod Ends
 mod Blocks
 mod Bitwise

@@ -24,14 +24,21 @@ ch x y z = bit_xor (bit_and x y) (bit_and (not32 x) z)
 abbrev pub maj : ℕ → ℕ → ℕ → ℕ
 maj x y z = bit_xor (bit_xor (bit_and x y) (bit_and x z)) (bit_and y z)
 
+-- Σ and σ, of the numbers of bits by which they rotate and shift
+abbrev pub big_sigma : ℕ → ℕ → ℕ → ℕ → ℕ
+big_sigma a b c x = bit_xor (bit_xor (rotr a x) (rotr b x)) (rotr c x)
+
+abbrev pub small_sigma : ℕ → ℕ → ℕ → ℕ → ℕ
+small_sigma a b c x = bit_xor (bit_xor (rotr a x) (rotr b x)) (shr c x)
+
 abbrev pub Σ0 : ℕ → ℕ
-Σ0 x = bit_xor (bit_xor (rotr 2 x) (rotr 13 x)) (rotr 22 x)
+Σ0 = big_sigma 2 13 22
 
 abbrev pub Σ1 : ℕ → ℕ
-Σ1 x = bit_xor (bit_xor (rotr 6 x) (rotr 11 x)) (rotr 25 x)
+Σ1 = big_sigma 6 11 25
 
 abbrev pub σ0 : ℕ → ℕ
-σ0 x = bit_xor (bit_xor (rotr 7 x) (rotr 18 x)) (shr 3 x)
+σ0 = small_sigma 7 18 3
 
 abbrev pub σ1 : ℕ → ℕ
-σ1 x = bit_xor (bit_xor (rotr 17 x) (rotr 19 x)) (shr 10 x)
+σ1 = small_sigma 17 19 10

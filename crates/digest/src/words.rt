@@ -1,6 +1,6 @@
 // The functions of SHA-256 on words of 32 bits.
-ghost use Rattle.std.specs.Prelude.{◌≡◌};
-ghost use Rattle.digest.specs.Words.{ch, maj, Σ0, Σ1, σ0, σ1};
+ghost use Rattle.std.specs.Prelude.{◌≡◌, ◌<◌};
+ghost use Rattle.digest.specs.Words.{big_sigma, ch, maj, small_sigma};
 
 // For each bit, y's where x has a 1 and z's where it has a 0. One operation less than as the standard writes it.
 pub(crate) fn choose(x: u32, y: u32, z: u32) -> u32
@@ -16,26 +16,18 @@ pub(crate) fn majority(x: u32, y: u32, z: u32) -> u32
     y ^ ((x ^ y) & (y ^ z))
 }
 
-pub(crate) fn big_sigma0(x: u32) -> u32
-    ensures { result ≡ Σ0 x }
+// The standard's Σ0 and Σ1.
+pub(crate) fn big_sigma<const A: u32, const B: u32, const C: u32>(x: u32) -> u32
+    requires { (0 < A) × (A < 32) × (0 < B) × (B < 32) × (0 < C) × (C < 32) }
+    ensures { result ≡ big_sigma A B C x }
 {
-    x.rotate_right(2) ^ x.rotate_right(13) ^ x.rotate_right(22)
+    x.rotate_right(A) ^ x.rotate_right(B) ^ x.rotate_right(C)
 }
 
-pub(crate) fn big_sigma1(x: u32) -> u32
-    ensures { result ≡ Σ1 x }
+// The standard's σ0 and σ1, which shift where the other two rotate a third time.
+pub(crate) fn small_sigma<const A: u32, const B: u32, const C: u32>(x: u32) -> u32
+    requires { (0 < A) × (A < 32) × (0 < B) × (B < 32) × (C < 32) }
+    ensures { result ≡ small_sigma A B C x }
 {
-    x.rotate_right(6) ^ x.rotate_right(11) ^ x.rotate_right(25)
-}
-
-pub(crate) fn small_sigma0(x: u32) -> u32
-    ensures { result ≡ σ0 x }
-{
-    x.rotate_right(7) ^ x.rotate_right(18) ^ (x >> 3)
-}
-
-pub(crate) fn small_sigma1(x: u32) -> u32
-    ensures { result ≡ σ1 x }
-{
-    x.rotate_right(17) ^ x.rotate_right(19) ^ (x >> 10)
+    x.rotate_right(A) ^ x.rotate_right(B) ^ (x >> C)
 }

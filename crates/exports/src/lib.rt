@@ -4,7 +4,8 @@
 ghost use Rattle.std.specs.Prelude.{◌≡◌, ◌==◌, length, if◌then◌else◌};
 ghost use Rattle.digest.specs.Sha256.{sha256_of};
 
-// The digest of bytes into out, which has to have 32 bytes: else nothing is written, and the answer is false.
+/// The digest of bytes into out, which has to have 32 bytes: else nothing is written, and the answer is false.
+// The C interface: a slice and a bool stand for an array and a Result.
 #[unsafe(no_mangle)]
 pub extern "C" fn digest_sha256(bytes: &[u8], out: &mut [u8]) -> bool
     ensures fits { result ≡ (length out.old == 32) }
@@ -13,7 +14,6 @@ pub extern "C" fn digest_sha256(bytes: &[u8], out: &mut [u8]) -> bool
     if out.len() != 32 {
         return false;
     }
-    let found = digest::sha256(bytes);
-    out.copy_from_slice(&found);
+    out.copy_from_slice(&digest::sha256(bytes));
     true
 }
