@@ -1,15 +1,29 @@
 -- Laws of the first c of an input, and of the pieces that it ends.
-use Rattle.std.proofs.Common.{◌≡◌, ℕ, ◌+◌, ◌-◌, ◌<◌, ◌≤◌, false, eqb, List, [], ◌∷◌, ◌++◌, map, length, get_or, take, drop, sym, refl, ap, ◌∙◌, subst, inl, inr, arith, length-append}
-use Rattle.std.proofs.lemmas.List.{take-append-drop, drop_more, take_all, drop_all, get_or_past}
-use Rattle.std.proofs.lemmas.Bool.{eq-eqb, ne_eqb, eqb-false, cond-true, cond-false}
+use Rattle.std.proofs.Common.{rules, ◌≢◌, ◌≡◌, ℕ, ◌+◌, ◌-◌, ◌<◌, ◌≤◌, eqb, List, [], ◌∷◌, ◌++◌, map, length, get_or, take, drop, sym, refl, ap, ◌∙◌, inl, inr, arith, length-append}
+use Rattle.std.proofs.lemmas.Bool.{eq-eqb, ne_eqb, cond-true, cond-false}
+use Rattle.std.proofs.lemmas.List.Elements.{All-from_get_or, recursion_from_All}
+use Rattle.std.proofs.lemmas.Grind.{common_steps}
+use Rattle.std.specs.List.{AllByRecursion}
 use Rattle.text.specs.Lines.{chomp, lines, FirstLine}
-use Rattle.text.specs.Pieces.{Free, First, Cut, onto, pieces}
+use Rattle.text.specs.Pieces.{Free, Cut, onto, pieces}
 
-pub cut_at : (c : ℕ) (s : List ℕ) (n : ℕ) → First c s n → n < length s → Cut c s (take n s) (drop (n + 1) s)
-cut_at c s n f h = record { free = f.free; whole = inl (sym (take-append-drop n s) ∙ ap (λ t. take n s ++ t) (drop_more s n 0 h ∙ ap (λ b. b ∷ drop (n + 1) s) (f.stops h))) }
+-- what holds at each place holds of each element
+pub by_places : (P : ℕ → Type 0) (xs : List ℕ) → ((k : ℕ) → k < length xs → P (get_or xs k 0)) → AllByRecursion P xs
+by_places P xs h = recursion_from_All P xs (All-from_get_or P xs 0 h)
 
-pub cut_none : (c : ℕ) (s : List ℕ) (n : ℕ) → First c s n → length s ≤ n → Cut c s s (drop n s)
-cut_none c s n f h = record { free = subst (λ t. Free c t) (take_all n s h) f.free; whole = inr (refl, drop_all n s h) }
+-- the same of a front of xs
+pub front_by_places : (P : ℕ → Type 0) (xs : List ℕ) (n : ℕ) → n ≤ length xs → ((k : ℕ) → k < n → P (get_or xs k 0)) → AllByRecursion P (take n xs)
+front_by_places P xs n within h = by_places P (take n xs) (λ k lt. search (rules, common_steps, h k))
+
+pub cut_at : (c : ℕ) (s : List ℕ) (n : ℕ) → n < length s → ((k : ℕ) → k < n → get_or s k 0 ≢ c) → get_or s n 0 ≡ c → Cut c s (take n s) (take (length s - (n + 1)) (drop (n + 1) s))
+cut_at c s n h free stops =
+    record {
+      free = front_by_places _ s n (omega arith) free;
+      whole = inl (grind (arith, common_steps, sym stops));
+    }
+
+pub cut_none : (c : ℕ) (s : List ℕ) → ((k : ℕ) → k < length s → get_or s k 0 ≢ c) → Cut c s s []
+cut_none c s free = record { free = by_places _ s free; whole = inr (refl, refl) }
 
 -- what goes on to the first c is the first piece, and the others are the pieces of what follows it
 pub pieces_at : (c : ℕ) (front rest : List ℕ) → Free c front → pieces c (front ++ c ∷ rest) ≡ front ∷ pieces c rest
@@ -32,22 +46,13 @@ pieces_cut c s front rest h k = elim k.whole [ inl e ↦ ap (pieces c) e ∙ pie
 pub cut_shorter : (c : ℕ) (s front rest : List ℕ) → 0 < length s → Cut c s front rest → length rest < length s
 cut_shorter c s front rest h k = elim k.whole [ inl e ↦ (let z = ap length e ∙ length-append front (c ∷ rest) in omega arith) | inr e ↦ (let z = ap length e.1 in omega arith) ]
 
--- a line that does not end by a carriage return stays as it is
-pub chomp_other : (xs : List ℕ) → (get_or xs (length xs - 1) 0 ≡ 13 → ⊥) → xs ≡ chomp xs
-chomp_other xs h = sym (cond-false (eqb (get_or xs (length xs - 1) 0) 13) _ _ (ne_eqb _ _ h))
-
-pub chomp_none : (xs : List ℕ) → length xs ≡ 0 → xs ≡ chomp xs
-chomp_none xs z = chomp_other xs (λ e. let p = get_or_past xs (length xs - 1) 0 (omega arith) in omega arith)
-
-pub line_from_cut : (s front line rest : List ℕ) → eqb (length s) 0 ≡ false → Cut 10 s front rest → line ≡ chomp front → FirstLine s line rest
+pub line_from_cut : (s front line rest : List ℕ) → 0 < length s → Cut 10 s front rest → line ≡ chomp front → FirstLine s line rest
 unfolding lines
-line_from_cut s front line rest some k e =
+line_from_cut s front line rest there k e =
     record {
       front = front;
       cut = k;
       line_is = e;
       of_all = ap (map chomp) (pieces_cut 10 s front rest there k) ∙ ap (λ l. l ∷ lines rest) (sym e);
       shorter = cut_shorter 10 s front rest there k;
-    } where
-      there : 0 < length s
-      there = let z = eqb-false (length s) 0 some in omega arith
+    }

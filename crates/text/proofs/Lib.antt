@@ -2,3 +2,4 @@ pub mod Cuts
 pub mod Wording
 pub mod Reading
 pub mod Table
+pub mod Counts

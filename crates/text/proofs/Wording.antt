@@ -1,16 +1,10 @@
 -- Laws of the words of a line.
-use Rattle.std.proofs.Common.{◌≡◌, ℕ, ◌<◌, eqb, ◌⊎◌, List, [], ◌∷◌, ◌++◌, length, get_or, take, drop, filter, sym, refl, ap, ◌∙◌, inl, inr, append-nil, arith, length-append, length-drop}
-use Rattle.std.proofs.lemmas.List.{take-append-drop, drop_all, get_or-drop}
-use Rattle.std.proofs.lemmas.Bool.{eq-eqb, cond-true, cases_lt}
-use Rattle.text.specs.Pieces.{Free, First, pieces}
+use Rattle.std.proofs.Common.{◌≡◌, ℕ, ◌-◌, ◌<◌, ◌≢◌, eqb, ◌⊎◌, List, [], ◌∷◌, ◌++◌, length, get_or, take, drop, filter, sym, refl, ap, ◌∙◌, inl, inr, append-nil, arith, length-append, length-drop}
+use Rattle.std.proofs.lemmas.List.{take-append-drop, get_or-drop, take_rest}
+use Rattle.std.proofs.lemmas.Bool.{eq-eqb, cond-true}
+use Rattle.text.specs.Pieces.{Free, pieces}
 use Rattle.text.specs.Words.{non_empty, words, Blank, Word, FirstWord}
-use Rattle.text.proofs.Cuts.{pieces_at, pieces_last}
-
--- the front up to the first space
-pub word_to_space : (s : List ℕ) (n : ℕ) → First 32 s n → Word s (take n s) (drop n s)
-word_to_space s n f = record { whole = sym (take-append-drop n s); free = f.free; ends = elim (cases_lt n (length s)) [ inl h ↦ inr (at h) | inr h ↦ inl (drop_all n s h) ] } where
-  at : n < length s → get_or (drop n s) 0 0 ≡ 32
-  at h = get_or-drop n s 0 0 ∙ ap (λ k. get_or s k 0) (omega arith) ∙ f.stops h
+use Rattle.text.proofs.Cuts.{by_places, front_by_places, pieces_at, pieces_last}
 
 -- spaces in front change no word
 pub words_gap : (gap t : List ℕ) → Blank gap → words (gap ++ t) ≡ words t
@@ -36,8 +30,8 @@ word_some s [] rest h begins w =
     absurd (elim w.ends [ inl e ↦ (let z = ap length (w.whole ∙ e) in omega arith) | inr e ↦ begins (ap (λ t. get_or t 0 0) w.whole ∙ e) ])
 
 -- the first word stands where the first byte does that is no space
-pub word_after : (s : List ℕ) (i : ℕ) (word rest : List ℕ) → i < length s → Blank (take i s) → (get_or s i 0 ≡ 32 → ⊥) → Word (drop i s) word rest → FirstWord s word rest
-word_after s i word rest h blank begins w =
+pub word_after : (s : List ℕ) (i : ℕ) (word rest : List ℕ) → i < length s → ((k : ℕ) → k < i → get_or s k 0 ≡ 32) → get_or s i 0 ≢ 32 → Word (take (length s - i) (drop i s)) word rest → FirstWord s word rest
+word_after s i word rest h before begins w' =
     record {
       gap = take i s;
       blank = blank;
@@ -48,12 +42,20 @@ word_after s i word rest h blank begins w =
       of_all = ap words (sym (take-append-drop i s)) ∙ words_gap (take i s) (drop i s) blank ∙ words_word (drop i s) word rest w some;
       shorter = let a = ap length parted in let b = some in omega (arith, simp length-append at a);
     } where
+      w : Word (drop i s) word rest
+      w = rw take_rest at w'
+
+      blank : Blank (take i s)
+      blank = front_by_places _ s i (omega arith) before
+
       some : 0 < length word
       some = word_some (drop i s) word rest (simp length-drop (omega arith)) (λ e. begins (ap (λ k. get_or s k 0) (omega arith) ∙ sym (get_or-drop i s 0 0) ∙ e)) w
 
       parted : s ≡ take i s ++ (word ++ rest)
       parted = sym (take-append-drop i s) ∙ ap (λ t. take i s ++ t) w.whole
 
-pub words_blank : (s : List ℕ) → Blank s → words s ≡ []
+pub words_blank : (s : List ℕ) → ((k : ℕ) → k < length s → get_or s k 0 ≡ 32) → (words s ≡ []) × Blank s
 unfolding pieces words
-words_blank s blank = ap words (sym (append-nil s)) ∙ words_gap s [] blank
+words_blank s spaces = (ap words (sym (append-nil s)) ∙ words_gap s [] blank, blank) where
+  blank : Blank s
+  blank = by_places _ s spaces

@@ -1,10 +1,10 @@
 -- The lines of an input. A line ends at a newline (10), and one carriage return (13) right before its end is no part of it.
-use Rattle.std.specs.Prelude.{◌≡◌, ℕ, ◌-◌, ◌<◌, cond, List, ◌∷◌, map, length, take, ◌==◌, slice_index}
+use Rattle.std.specs.Prelude.{◌≡◌, ℕ, ◌-◌, ◌<◌, if◌then◌else◌, List, ◌∷◌, map, length, take, ◌==◌, slice_index}
 use Rattle.text.specs.Pieces.{Cut, pieces}
 
 -- without one carriage return at the end
 abbrev pub chomp : List ℕ → List ℕ
-chomp xs = cond (slice_index xs (length xs - 1) == 13) (take (length xs - 1) xs) xs
+chomp xs = if slice_index xs (length xs - 1) == 13 then take (length xs - 1) xs else xs
 
 -- all lines; a newline at the very end begins no further line
 unfoldable pub lines : List ℕ → List (List ℕ)

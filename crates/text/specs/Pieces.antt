@@ -1,16 +1,10 @@
 -- How a byte c parts an input.
-use Rattle.std.specs.Prelude.{◌≡◌, ℕ, ◌<◌, ◌≤◌, cond, ◌⊎◌, List, [], ◌∷◌, ◌++◌, length, take, ◌==◌, ◌≢◌, slice_index}
+use Rattle.std.specs.Prelude.{◌≡◌, ℕ, if◌then◌else◌, ◌⊎◌, List, [], ◌∷◌, ◌++◌, ◌==◌, ◌≢◌}
 use Rattle.std.specs.List.{AllByRecursion}
 
 -- no byte of xs is c
 abbrev pub Free : ℕ → List ℕ → Type 0
 Free c xs = AllByRecursion (λ b. b ≢ c) xs
-
--- the first c of s stands at n, or n is the length of s and there is none
-pub record First (c : ℕ) (s : List ℕ) (n : ℕ) : Type 0 where
-  pub within : n ≤ length s
-  pub free : Free c (take n s)
-  pub stops : n < length s → slice_index s n ≡ c
 
 -- front is what stands before the first c of s and rest what follows that c; without a c, front is all of s
 pub record Cut (c : ℕ) (s front rest : List ℕ) : Type 0 where
@@ -25,4 +19,4 @@ onto x (p ∷ ps) = (x ∷ p) ∷ ps
 -- the pieces of an input: each ends at a c, which is left out, or where the input ends; a c at the very end begins no further piece
 unfoldable pub pieces : ℕ → List ℕ → List (List ℕ)
 pieces c [] = []
-pieces c (x ∷ xs) = cond (x == c) ([] ∷ pieces c xs) (onto x (pieces c xs))
+pieces c (x ∷ xs) = if x == c then [] ∷ pieces c xs else onto x (pieces c xs)

@@ -4,22 +4,18 @@ ghost use Rattle.text.specs.Hex.{hex_byte, hex_digit_of, RoundTrip};
 
 use crate::numbers::hex_digit;
 
+// Each number below 16 has its digit here, where `char::from_digit` would hand out an option.
 const DIGITS: [u8; 16] = *b"0123456789abcdef";
 
 /// The byte that two hexadecimal digits, of either case, write.
 pub fn hex_byte(high: u8, low: u8) -> Option<u8>
     ensures { result ≡ hex_byte high low }
 {
-    let Some(h) = hex_digit(high) else {
-        return None;
-    };
-    let Some(l) = hex_digit(low) else {
-        return None;
-    };
-    Some(16 * h + l)
+    Some(16 * hex_digit(high)? + hex_digit(low)?)
 }
 
 /// The two hexadecimal digits that write a byte, in lower case.
+#[tactic(auto, using(crate::proofs::Table::digit_at))]
 pub fn hex_pair(b: u8) -> [u8; 2]
     ensures { result ≡ hex_digit_of (b / 16) ∷ hex_digit_of (b % 16) ∷ [] }
 {

@@ -1,38 +1,27 @@
 // Lines, words and numbers of an input, as views of the bytes that hold them: nothing is copied.
 #![tactic(auto)]
 
-ghost use Rattle.std.specs.Prelude.{◌≡◌, [], MatchOption};
-ghost use Rattle.text.specs.Lines.{chomp, FirstLine};
-ghost use Rattle.text.specs.Pieces.{Cut, First};
+ghost use Rattle.std.specs.Prelude.{◌≡◌, [], ◌<◌, ◌^◌, length, MatchOption};
+ghost use Rattle.text.specs.Lines.{chomp, lines, FirstLine};
+ghost use Rattle.text.specs.Pieces.{Cut};
 ghost use Rattle.text.specs.Words.{words, Blank, Word, FirstWord};
 
 mod hex;
+mod iter;
 mod numbers;
 
 pub use hex::{hex_byte, hex_pair, hex_round_trip_stands};
+pub use iter::{Lines, Words};
 pub use numbers::{decimal, hex_digit};
 
-// Where the first `end` stands in `s`, or the length of `s` where there is none.
-fn find(s: &[u8], end: u8) -> usize
-    ensures { First end s.now result }
-{
-    for (i, b) in s.iter().enumerate() {
-        if *b == end {
-            return i;
-        }
-    }
-    s.len()
-}
-
 // What stands before the first `end`, and what follows it.
+#[tactic(auto, using(crate::proofs::Cuts::cut_none))]
 fn cut(s: &[u8], end: u8) -> (&[u8], &[u8])
     ensures { Cut end s.now result.0.now result.1.now }
 {
-    let n = find(s, end);
-    if n < s.len() {
-        (&s[0..n], &s[n + 1..])
-    } else {
-        (s, &s[n..])
+    match s.iter().position(|&b| b == end) {
+        Some(n) => (&s[..n], &s[n + 1..]),
+        None => (s, &[]),
     }
 }
 
@@ -40,15 +29,11 @@ fn cut(s: &[u8], end: u8) -> (&[u8], &[u8])
 fn without_return(line: &[u8]) -> &[u8]
     ensures { result.now ≡ chomp line.now }
 {
-    let n = line.len();
-    if n > 0 && line[n - 1] == b'\r' {
-        &line[0..n - 1]
-    } else {
-        line
-    }
+    line.strip_suffix(b"\r").unwrap_or(line)
 }
 
 /// The first line, and what follows its newline. A newline at the very end begins no further line.
+#[tactic(auto, using(crate::proofs::Cuts::line_from_cut))]
 pub fn first_line(s: &[u8]) -> Option<(&[u8], &[u8])>
     ensures { MatchOption result (s.now ≡ []) (λ p. FirstLine s.now p.0.now p.1.now) }
 {
@@ -63,20 +48,37 @@ pub fn first_line(s: &[u8]) -> Option<(&[u8], &[u8])>
 fn split_word(s: &[u8]) -> (&[u8], &[u8])
     ensures { Word s.now result.0.now result.1.now }
 {
-    let n = find(s, b' ');
-    (&s[0..n], &s[n..])
+    match s.iter().position(|&b| b == b' ') {
+        Some(n) => s.split_at(n),
+        None => (s, &[]),
+    }
 }
 
 /// The first word, and what follows it. Only spaces part words.
+#[tactic(auto, using(crate::proofs::Wording::words_blank))]
 pub fn first_word(s: &[u8]) -> Option<(&[u8], &[u8])>
     ensures { MatchOption result ((words s.now ≡ []) × Blank s.now) (λ p. FirstWord s.now p.0.now p.1.now) }
 {
-    for (i, b) in s.iter().enumerate() {
-        if *b != b' ' {
-            return Some(split_word(&s[i..]));
-        }
-    }
-    None
+    let start = s.iter().position(|&b| b != b' ')?;
+    Some(split_word(&s[start..]))
+}
+
+/// The lines, first to last. A newline at the very end begins no further line.
+#[tactic(auto, using(crate::proofs::Counts::length_lines))]
+pub fn lines(s: &[u8]) -> Lines<'_>
+    ensures all { result ≡ lines s.now }
+    ensures countable { length result < 2 ^ 64 }
+{
+    Lines { rest: s }
+}
+
+/// The words, first to last. Only spaces part words.
+#[tactic(auto, using(crate::proofs::Counts::length_words))]
+pub fn words(s: &[u8]) -> Words<'_>
+    ensures all { result ≡ words s.now }
+    ensures countable { length result < 2 ^ 64 }
+{
+    Words { rest: s }
 }
 
 #[cfg(test)]
@@ -102,6 +104,24 @@ mod tests {
         assert!(rt; rest == b" c".as_slice());
         assert!(rt; first_word(b"  ").is_none());
         Ok(())
+    }
+
+    #[test]
+    fn lines_come_first_to_last(rt: HostRuntime) {
+        let mut left = lines(b"a\r\n\nb\n");
+        assert_eq!(rt; left.next(), Some(b"a".as_slice()));
+        assert_eq!(rt; left.next(), Some(b"".as_slice()));
+        assert_eq!(rt; left.next(), Some(b"b".as_slice()));
+        assert!(rt; left.next().is_none());
+        assert_eq!(rt; lines(b"a\n\nb").count(), 3);
+    }
+
+    #[test]
+    fn only_spaces_part_the_words_of_a_line(rt: HostRuntime) {
+        for (i, word) in words(b"  a bb  c\tc ").enumerate() {
+            assert!(rt; word.len() == i + 1);
+        }
+        assert_eq!(rt; words(b"  a bb  c\tc ").count(), 3);
     }
 
     #[test]
