@@ -1,6 +1,6 @@
 -- A book's columns: the tree that parents and heights stand for, and marks made in one pass over links.
 -- Assumes nothing.
-use Rattle.std.specs.Prelude.{◌≡◌, ℕ, ◌+◌, ◌<◌, ◌≤◌, Bool, true, false, cond, ◌&&◌, ◌↔◌, List, [], ◌∷◌, ◌++◌, length, replicate, nat_le, slice_index, slice_index_or, slice_set}
+use Rattle.std.specs.Prelude.{◌≡◌, ℕ, ◌+◌, ◌<◌, ◌≤◌, Bool, true, false, if◌then◌else◌, ◌&&◌, ◌↔◌, List, [], ◌∷◌, ◌++◌, length, replicate, nat_le, slice_index, slice_index_or, slice_set}
 use Rattle.finality.specs.declared.Link.{Link}
 use Rattle.finality.specs.declared.Vote.{Vote}
 use Rattle.finality.specs.Tree.{Grown, Tree, Under}
@@ -22,7 +22,7 @@ pub record Book (ps hs : List ℕ) : Type 0 where
 
 -- one link's turn: its target is marked if its source is
 abbrev pub marking : List Bool → Link → List Bool
-marking ms k = cond (slice_index_or ms k.source false) (slice_set ms k.target true) ms
+marking ms k = if slice_index_or ms k.source false then slice_set ms k.target true else ms
 
 -- all links' turns, in their order
 unfoldable pub marked : List Link → List Bool → List Bool

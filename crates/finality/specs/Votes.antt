@@ -1,6 +1,6 @@
 -- Votes for links: who voted for what, which links two thirds of the weight make, and which two votes of one voter break the rules.
 -- Assumes nothing.
-use Rattle.std.specs.Prelude.{◌≡◌, ℕ, zero, suc, ◌+◌, ◌*◌, ◌≤◌, Bool, true, false, cond, ◌&&◌, ◌||◌, ◌⊎◌, ◌↔◌, List, [], ◌∷◌, ◌==◌, nat_le}
+use Rattle.std.specs.Prelude.{◌≡◌, ℕ, zero, suc, ◌+◌, ◌*◌, ◌≤◌, Bool, true, false, if◌then◌else◌, ◌&&◌, ◌||◌, ◌⊎◌, ◌↔◌, List, [], ◌∷◌, ◌==◌, nat_le}
 use mathlib.Core.List.{Memᴰ}
 use Rattle.finality.specs.declared.Link.{Link}
 use Rattle.finality.specs.declared.Proof.{Proof}
@@ -20,12 +20,12 @@ pub record Electorate : Type 0 where
 -- the weight of the voters below n for whom a test holds
 unfoldable pub weighed : ℕ → (ℕ → ℕ) → (ℕ → Bool) → ℕ
 weighed zero w p = 0
-weighed (suc n) w p = cond (p n) (w n) 0 + weighed n w p
+weighed (suc n) w p = (if p n then w n else 0) + weighed n w p
 
 -- what f gives for each voter below n for whom a test holds
 unfoldable pub each : {A : Type 0} → ℕ → (ℕ → Bool) → (ℕ → A) → List A
 each zero p f = []
-each (suc n) p f = cond (p n) (f n ∷ each n p f) (each n p f)
+each (suc n) p f = if p n then f n ∷ each n p f else each n p f
 
 abbrev pub everyone : ℕ → Bool
 everyone v = true

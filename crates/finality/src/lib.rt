@@ -23,21 +23,21 @@ pub use safety::{
 };
 
 // From a page to a higher one on top of it, by their numbers in a book.
-#[derive(Clone, Copy)]
+#[derive(Clone, Copy, Debug, PartialEq, Eq)]
 pub struct Link {
     pub source: u32,
     pub target: u32,
 }
 
 // A voter's word for a link.
-#[derive(Clone, Copy)]
+#[derive(Clone, Copy, Debug, PartialEq, Eq)]
 pub struct Vote {
     pub voter: u32,
     pub link: Link,
 }
 
 // What is shown against a voter: two votes of its own.
-#[derive(Clone, Copy)]
+#[derive(Clone, Copy, Debug, PartialEq, Eq)]
 pub struct Proof {
     pub one: Vote,
     pub other: Vote,

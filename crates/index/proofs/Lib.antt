@@ -1,3 +1,1 @@
-pub mod Lasts
 pub mod Finds
-pub mod Chained

@@ -1,3 +1,2 @@
 pub mod Find
-pub mod Chains
 pub mod Held

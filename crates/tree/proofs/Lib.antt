@@ -1,2 +1,2 @@
-pub mod Held
+pub mod Heights
 pub mod Walks

@@ -1,18 +1,11 @@
-use Rattle.std.proofs.Common.{arith}
-use Rattle.index.proofs.Chained.{headed_pushed, linked_pushed}
+use Rattle.std.proofs.lemmas.Result.{IfOk-at_ok}
+use Rattle.index.proofs.Finds.{find_push}
 use Rattle.index.proofs.Index.push.Goals as goal
 
-pub invariant_of-self-2 : goal.invariant_of-self-2
-invariant_of-self-2 c =
-    let self = c.args.self.now in
-    let entered = c.push_reserved-2.ensures.items in
-    let at = c.pair-at.ensures in
-    record {
-      few = omega arith;
-      room = omega arith;
-      level = omega arith;
-      older_room = omega arith;
-      wide = omega arith;
-      headed = headed_pushed _ _ _ _ _ _ self.headed entered at.value (omega arith) (omega arith);
-      linked = linked_pushed _ _ _ _ _ _ _ _ self.headed self.linked entered c.push_reserved.ensures.items at.value at.bound (omega arith) (omega arith) c.index.ensures;
-    }
+pub invariant_of-self-clause-lasts : goal.invariant_of-self-clause-lasts
+invariant_of-self-clause-lasts c = λ d.
+    let updates = IfOk-at_ok _ c.unwrap.ensures c.insert-entered.ensures.updates in
+    let at = updates.0 (record { 0 = d }) in
+    let before = c.args.self.now.lasts d in
+    let pushed = find_push c.args.self.now.keys.items c.args.key d in
+    cc (c.push_reserved.ensures.items, c.len-n.ensures.value)

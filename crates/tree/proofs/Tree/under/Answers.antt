@@ -1,15 +1,20 @@
 use Rattle.std.proofs.Common.{arith}
-use Rattle.std.proofs.lemmas.Bool.{eq-eqb, eqb-true}
-use Rattle.tree.proofs.Held.{lent_book}
-use Rattle.tree.proofs.Walks.{met_itself, met_last, met_next}
+use Rattle.std.proofs.lemmas.Grind.{common_steps}
+use Rattle.finality.specs.Tree.{self}
+use Rattle.finality.proofs.Books.{under_le}
+use Rattle.tree.proofs.Walks.{under_parent}
 use Rattle.tree.proofs.Tree.under.Goals as goal
 
 pub loop-at-preserved : goal.loop-at-preserved
-loop-at-preserved c = met_next _ _ (lent_book c.args.self) _ _ _ c.loop-at.invariant (omega arith)
+loop-at-preserved c =
+    let met = c.loop-at.invariant in
+    let below = c.args.self.book.below c.loop-at.at (omega arith) met.there in
+    let lower = under_parent c.args.self.parents.now c.args.self.heights.now c.args.a c.loop-at.at (omega arith) in
+    record { there = omega arith; alike = (λ u. lower.0 (met.alike.0 u), λ u. met.alike.1 (lower.1 u)) }
 
 pub returns : goal.returns
 returns c =
-    let book = lent_book c.args.self in (
-      λ e. (omega arith, met_itself _ _ book _ _ _ c.loop-at.invariant (eqb-true _ _ e)),
-      λ p. eq-eqb _ _ (met_last _ _ book _ _ _ c.loop-at.invariant (omega arith) p.1),
+    let met = c.loop-at.invariant in (
+      λ e. (omega arith, met.alike.1 (self (grind (arith, common_steps)))),
+      λ p. (let le = under_le _ _ c.args.self.book (met.alike.0 p.1) met.there in grind (arith, common_steps)),
     )
