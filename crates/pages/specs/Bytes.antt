@@ -1,17 +1,11 @@
 -- The bytes of a page: a kind, its height, the digest of its parent, the receipts' length, and the receipts.
-use Rattle.std.specs.Prelude.{◌≡◌, ℕ, ◌+◌, ◌*◌, ◌/◌, ◌%◌, ◌^◌, ◌<◌, ◌≤◌, Bool, true, ◌&&◌, List, [], ◌∷◌, ◌++◌, length, take, drop, replicate, ◌==◌, nat_le, slice_index}
+use Rattle.std.specs.Prelude.{◌≡◌, ℕ, ◌+◌, ◌^◌, ◌<◌, ◌≤◌, Bool, true, ◌&&◌, List, [], ◌∷◌, ◌++◌, length, take, drop, replicate, ◌==◌, nat_le, slice_index}
+use Rattle.std.specs.Int.{w16, w32, from_be_bytes, to_be_bytes}
 use Rattle.std.specs.List.{AllByRecursion}
-
--- a number in four bytes and in two, high byte first
-abbrev pub four : ℕ → List ℕ
-four n = (n / 16777216 % 256) ∷ (n / 65536 % 256) ∷ (n / 256 % 256) ∷ (n % 256) ∷ []
-
-abbrev pub two : ℕ → List ℕ
-two n = (n / 256 % 256) ∷ (n % 256) ∷ []
 
 -- the bytes of the page with this height, parent's digest and receipts
 unfoldable pub encoded : ℕ → List ℕ → List ℕ → List ℕ
-encoded height parent receipts = ((1 ∷ four height) ++ parent) ++ (two (length receipts) ++ receipts)
+encoded height parent receipts = 1 ∷ (to_be_bytes w32 height ++ (parent ++ (to_be_bytes w16 (length receipts) ++ receipts)))
 
 -- page 0: height 0, a parent's digest of zeros, no receipts
 abbrev pub page_zero : List ℕ
@@ -19,14 +13,14 @@ page_zero = encoded 0 (replicate 32 0) []
 
 -- what stands in bytes at the places of a page's parts
 unfoldable pub height_of : List ℕ → ℕ
-height_of b = slice_index b 1 * 16777216 + slice_index b 2 * 65536 + slice_index b 3 * 256 + slice_index b 4
+height_of b = from_be_bytes w32 (take 4 (drop 1 b))
 
 unfoldable pub parent_of : List ℕ → List ℕ
 parent_of b = take 32 (drop 5 b)
 
 -- the receipts' length, as the bytes give it
 unfoldable pub count_of : List ℕ → ℕ
-count_of b = slice_index b 37 * 256 + slice_index b 38
+count_of b = from_be_bytes w16 (take 2 (drop 37 b))
 
 unfoldable pub receipts_of : List ℕ → List ℕ
 receipts_of b = drop 39 b

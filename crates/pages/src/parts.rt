@@ -1,7 +1,7 @@
 // A page's parts, decoded from and encoded to bytes.
-ghost use Rattle.std.specs.Prelude.{◌≡◌, ◌+◌, ◌<◌, ◌≤◌, true, false, ◌++◌, length, take, drop, MatchOption};
+ghost use Rattle.std.specs.Prelude.{◌≡◌, ℕ, ◌+◌, ◌<◌, ◌≤◌, true, false, List, ◌++◌, length, MatchOption};
 ghost use Rattle.pages.specs.Bytes.{well_formed, DecodesEncoded, EncodesDecoded};
-ghost use Rattle.pages.specs.Parts.{Apart, Put};
+ghost use Rattle.pages.specs.Parts.{Apart, Filled, Put};
 
 /// SHA-256 of a page's bytes.
 pub type Digest = [u8; 32];
@@ -15,17 +15,8 @@ pub const LONGEST: usize = 1_063;
 // The first byte of every page.
 const KIND: u8 = 1;
 
-// Where the parts stand.
-const HEIGHT_AT: usize = 1;
-
-const PARENT_AT: usize = 5;
-
-const COUNT_AT: usize = 37;
-
-const RECEIPTS_AT: usize = 39;
-
 /// What a page's bytes say. The receipts stay where they lie.
-#[derive(Clone, Copy)]
+#[derive(Clone, Copy, Debug, PartialEq, Eq)]
 pub struct Parts<'a> {
     pub height: u32,
     pub parent: Digest,
@@ -33,28 +24,22 @@ pub struct Parts<'a> {
 }
 
 /// Takes a page's bytes apart; None where they are not well formed.
+#[tactic(auto, using(crate::proofs::Codec::cut_short))]
 pub fn decode(bytes: &[u8]) -> Option<Parts<'_>>
     ensures { MatchOption result (well_formed bytes.now ≡ false) (λ p. (well_formed bytes.now ≡ true) × Apart bytes.now p.height p.parent p.receipts.now) }
 {
-    if bytes.len() < RECEIPTS_AT || bytes[0] != KIND {
+    let (kind, rest) = bytes.split_first()?;
+    let (height, rest) = rest.split_first_chunk::<4>()?;
+    let (parent, rest) = rest.split_first_chunk::<32>()?;
+    let (count, receipts) = rest.split_first_chunk::<2>()?;
+    let count = usize::from(u16::from_be_bytes(*count));
+    if *kind != KIND || count > MOST_RECEIPTS || receipts.len() != count {
         return None;
     }
-    let count = u16::from_be_bytes([bytes[COUNT_AT], bytes[COUNT_AT + 1]]) as usize;
-    if count > MOST_RECEIPTS || bytes.len() != RECEIPTS_AT + count {
-        return None;
-    }
-    let height = u32::from_be_bytes([
-        bytes[HEIGHT_AT],
-        bytes[HEIGHT_AT + 1],
-        bytes[HEIGHT_AT + 2],
-        bytes[HEIGHT_AT + 3],
-    ]);
-    let mut parent = [0u8; 32];
-    parent.copy_from_slice(&bytes[PARENT_AT..COUNT_AT]);
     Some(Parts {
-        height,
-        parent,
-        receipts: &bytes[RECEIPTS_AT..],
+        height: u32::from_be_bytes(*height),
+        parent: *parent,
+        receipts,
     })
 }
 
@@ -62,8 +47,7 @@ pub fn decode(bytes: &[u8]) -> Option<Parts<'_>>
 fn append(out: &mut [u8], at: usize, bytes: &[u8]) -> usize
     requires { at + length bytes.now ≤ length out.old }
     ensures end { result ≡ at + length bytes.now }
-    ensures front { take result out.new ≡ take at out.old ++ bytes.now }
-    ensures rest { drop result out.new ≡ drop result out.old }
+    ensures filled { (room front : List ℕ) → Filled room front out.old at → Filled room (front ++ bytes.now) out.new result }
 {
     let end = at + bytes.len();
     out[at..end].copy_from_slice(bytes);
@@ -72,6 +56,8 @@ fn append(out: &mut [u8], at: usize, bytes: &[u8]) -> usize
 
 /// Writes a page's bytes at the beginning of out, and says how many they are. None, and nothing is written, where there are more
 /// receipts than a page holds.
+// The room is lent, so nothing is taken from memory; a part of it handed back in place of its size would keep callers from knowing
+// what the rest of the room holds.
 pub fn encode(parts: Parts<'_>, out: &mut [u8; LONGEST]) -> Option<usize>
     ensures { MatchOption result ((1024 < length parts.entry.receipts.now) × (out.new ≡ out.old)) (λ n. Put parts.entry.height parts.entry.parent parts.entry.receipts.now out.old out.new n) }
 {

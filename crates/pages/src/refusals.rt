@@ -1,6 +1,8 @@
 // Why something is turned away.
-ghost use Rattle.std.specs.Prelude.{◌≡◌};
-ghost use Rattle.pages.specs.Refusals.{number_of};
+ghost use Rattle.std.specs.Prelude.{◌≡◌, Some};
+ghost use Rattle.pages.specs.Refusals.{number_of, text_of};
+
+use std::fmt;
 
 /// Why something is turned away: the first of these that fits, in this order.
 #[derive(Clone, Copy, PartialEq, Eq, Debug)]
@@ -15,16 +17,37 @@ pub enum Refusal {
     Full,
 }
 
-impl Refusal {
-    /// The number by which the refusal is printed.
-    pub fn number(self) -> u8
-        ensures { result ≡ number_of self }
-    {
-        match self {
+/// The number by which a refusal is printed.
+impl From<Refusal> for u8 {
+    ghost from_gives = { λ why n. n ≡ number_of why };
+
+    fn from(why: Refusal) -> u8 {
+        match why {
             Refusal::Malformed => 1,
             Refusal::Duplicate => 2,
             Refusal::WrongHeight => 3,
             Refusal::Full => 4,
         }
+    }
+}
+
+impl fmt::Display for Refusal {
+    ghost output = { λ why. Some (text_of why) };
+
+    fn fmt<W: fmt::Write>(&self, f: &mut fmt::Formatter<W>) -> fmt::Result {
+        write!(f, "refused {}", u8::from(*self))
+    }
+}
+
+#[cfg(test)]
+mod tests {
+    use super::*;
+    use std::test::Fail;
+
+    #[test]
+    fn a_refusal_is_printed_by_its_number(rt: HostRuntime) -> Result<(), Fail> {
+        let text = format!(in rt.alloc(); "{}", Refusal::WrongHeight)?;
+        assert_eq!(rt; text.as_str(), "refused 3");
+        Ok(())
     }
 }

@@ -9,7 +9,8 @@ mod reading;
 pub const MOST: usize = 64;
 
 /// From 1 to 64 voters, numbered from 0, each with a weight of at most 1,000,000. Not all weights are 0.
-#[derive(Clone, Copy)]
+// Their weights stand in a row of fixed length, so that voters take no memory of their own.
+#[derive(Clone, Copy, Debug, PartialEq, Eq)]
 pub struct Voters {
     count: u32,
     weights: [u32; MOST],

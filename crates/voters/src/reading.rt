@@ -1,5 +1,6 @@
 // How the voters are read from a line, and what is known of them.
-ghost use Rattle.std.specs.Prelude.{◌≡◌, ℕ, ◌≤◌, List, length, sum, MatchOption};
+ghost use Rattle.std.specs.Prelude.{◌≡◌, ℕ, ◌≤◌, List, length, Some, MatchOption};
+ghost use Rattle.text.specs.Numbers.{decimal_of};
 ghost use Rattle.text.specs.Words.{words};
 ghost use Rattle.voters.specs.Weights.{total_of, weight_of, weights_of, Lists, Names, Row};
 
@@ -13,22 +14,20 @@ impl Voters {
     pub fn read(line: &[u8]) -> Option<Voters>
         ensures { MatchOption result ((xs : List ℕ) → Names line.now xs → ⊥) (λ v. Names line.now (weights_of v) × ((xs : List ℕ) → Names line.now xs → xs ≡ weights_of v)) }
     {
-        let Some((head, rest)) = text::first_word(line) else {
-            return None;
-        };
-        if head != b"weights".as_slice() {
-            return None;
-        }
-        let Some(filled) = row(rest) else {
-            return None;
-        };
-        let (weights, count) = filled;
-        // No number at all comes to 0 as well.
-        if sum_of(&weights) == 0 {
+        let (head, rest) = text::first_word(line)?;
+        let count = text::words(rest).count();
+        if head != b"weights".as_slice() || count > MOST {
             return None;
         }
-        let count = count as u32;
-        Some(Voters { count, weights })
+        let weights = row(rest)?;
+        // No number at all is among these too.
+        if weights.iter().all(|w| *w == 0) {
+            return None;
+        }
+        Some(Voters {
+            count: count as u32,
+            weights,
+        })
     }
 
     /// How many voters there are.
@@ -44,50 +43,35 @@ impl Voters {
         ensures value { result ≡ weight_of self.now voter }
         ensures bound { result ≤ 1000000 }
     {
-        if voter < self.count {
-            self.weights[voter as usize]
-        } else {
-            0
-        }
+        // The places behind the voters hold 0.
+        self.weights.get(voter as usize).copied().unwrap_or(0)
     }
 
     /// The weight of all voters together.
+    #[tactic(auto, using(crate::proofs::Rows::total_is, crate::proofs::Rows::total_most))]
     pub fn total(&self) -> u32
         ensures value { result ≡ total_of self.now }
         ensures bound { (1 ≤ result) × (result ≤ 64000000) }
     {
-        sum_of(&self.weights) as u32
+        self.weights.iter().sum()
     }
 }
 
-// The numbers that the words of `s` are, with 0 at the places behind them, and how many they are.
-fn row(s: &[u8]) -> Option<([u32; MOST], usize)>
-    ensures { MatchOption result ((xs : List ℕ) → Lists (words s.now) xs → ⊥) (λ p. Row (words s.now) p.0 p.1) }
+// The weights that the words of `s` are, with 0 at the places behind them.
+fn row(s: &[u8]) -> Option<[u32; MOST]>
+    requires { length (words s.now) ≤ 64 }
+    ensures { MatchOption result ((xs : List ℕ) → Lists (words s.now) xs → ⊥) (λ row. Row (words s.now) row (length (words s.now))) }
 {
     let mut weights = [0u32; MOST];
-    let mut count = 0;
-    let mut rest = s;
-    while let Some((word, after)) = text::first_word(rest) {
-        let Some(weight) = text::decimal(word) else {
-            return None;
-        };
-        if count == MOST || weight > HEAVIEST {
-            return None;
-        }
-        weights[count] = weight;
-        count += 1;
-        rest = after;
+    for (voter, word) in text::words(s).enumerate() {
+        weights[voter] = weight(word)?;
     }
-    Some((weights, count))
+    Some(weights)
 }
 
-// In 64 bits no sum of 64 numbers of 32 bits wraps.
-fn sum_of(weights: &[u32; MOST]) -> u64
-    ensures { result ≡ sum weights.now }
+// The weight that a word is.
+fn weight(word: &[u8]) -> Option<u32>
+    ensures { MatchOption result ((x : ℕ) → decimal_of word.now ≡ Some x → x ≤ 1000000 → ⊥) (λ x. (decimal_of word.now ≡ Some x) × (x ≤ 1000000)) }
 {
-    let mut total: u64 = 0;
-    for w in weights {
-        total += *w as u64;
-    }
-    total
+    text::decimal(word).filter(|w| *w <= HEAVIEST)
 }

@@ -1,28 +1,19 @@
-use Rattle.std.proofs.Common.{◌≡◌, ℕ, List, ◌∷◌, sym, subst, inl, inr}
-use Rattle.text.specs.Words.{words}
-use Rattle.voters.proofs.Rows.{Filling, filling_none, filling_more, filling_bad, filling_heavy, filling_full}
+use Rattle.std.proofs.Common.{◌≡◌, [], rules}
+use Rattle.voters.proofs.Rows.{filled, filling_none, filling_more, filling_bad}
 use Rattle.voters.proofs.reading.row.Goals as goal
 
--- the word at hand is the first of those still to read
-at : (s : List ℕ) (row : List ℕ) (n : ℕ) (rest word after : List ℕ) → words rest ≡ word ∷ words after → Filling (words s) (words rest) row n → Filling (words s) (word ∷ words after) row n
-at s row n rest word after e f = subst (λ (ws : List (List ℕ)). Filling (words s) ws row n) e f
+pub loop-voter-init : goal.loop-voter-init
+loop-voter-init c = filling_none _ _ _ (cc) (cc) c.requires
 
-pub loop-word-init : goal.loop-word-init
-loop-word-init c = filling_none (words c.args.s.now)
+pub loop-voter-preserved : goal.loop-voter-preserved
+loop-voter-preserved c =
+    let h = c.in-Some.ensures.steps in
+    rw (h.1, h.2) (filling_more _ _ _ _ _ _ (rw h.0 at c.loop-voter.invariant) c.in_ok-weights.ensures.0 c.in_ok-weights.ensures.1)
 
-pub loop-word-preserved : goal.loop-word-preserved
-loop-word-preserved c =
-    filling_more (words c.args.s.now) (words c.in-Some.after.now) c.loop-word.weights c.loop-word.count c.in-Some.word.now c.in-Some-decimal.weight
-    (at _ _ _ _ _ _ c.in-Some.ensures.of_all c.loop-word.invariant) (sym c.in-Some-decimal.ensures) c.if-weight-gt-HEAVIEST.false c.if-count-eq-MOST.false
+pub returns-in_err-weights : goal.returns-in_err-weights
+returns-in_err-weights c =
+    let h = c.in-Some.ensures.steps in
+    rw c.from_residual.ensures (filling_bad _ _ _ _ _ (rw h.0 at c.loop-voter.invariant) c.in_err-weights.ensures)
 
-pub returns-then-count-eq-MOST : goal.returns-then-count-eq-MOST
-returns-then-count-eq-MOST c =
-    let f = at _ _ _ _ _ _ c.in-Some.ensures.of_all c.loop-word.invariant in
-    elim c.then-count-eq-MOST.either [
-      | inl full ↦ filling_full _ _ _ _ _ f full
-      | inr heavy ↦ filling_heavy _ _ _ _ _ _ f (sym c.in-Some-decimal.ensures) heavy.1
-    ]
-
-pub returns-in_default-decimal : goal.returns-in_default-decimal
-returns-in_default-decimal c =
-    filling_bad _ _ _ _ _ (at c.args.s.now _ _ _ _ _ c.in-Some.ensures.of_all c.loop-word.invariant) (sym c.in_default-decimal.ensures)
+pub returns : goal.returns
+returns c = let h : c.loop-voter.voter-iterator.iter ≡ [] = search rules in filled _ _ _ (rw h at c.loop-voter.invariant)
