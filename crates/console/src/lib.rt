@@ -1,57 +1,20 @@
-// What the programs share at their edges: why one stops early, and standard input read whole.
+// What the programs share at their edges: standard input read whole, lines answered one by one, and why a program stops early.
 #![tactic(auto)]
 
-ghost use Rattle.std.specs.Prelude.{◌≡◌, OnErr, OnOk};
+ghost use Rattle.std.specs.Prelude.{◌≡◌, [], IfErr, IfOk, OnErr, OnOk};
+ghost use Rattle.std.specs.Io.Buffered.{writer_buffer, writer_capacity};
 ghost use Rattle.std.specs.Process.{exit_status};
-ghost use Rattle.console.specs.declared.Fault.TheVariants.{Io, Memory};
+ghost use Rattle.console.specs.declared.fault.Fault.TheVariants.{Memory};
 
-use std::alloc::AllocError;
-use std::io::Read;
+mod answers;
+mod fault;
+#[cfg(test)]
+mod tests;
+
+pub use answers::{Answers, answer_lines};
+pub use fault::Fault;
+use std::io::{BufWriter, Read, Stdout};
 use std::process::ExitCode;
-use std::{fmt, io};
-
-/// Why a program stops early. What it then says on standard error is the fault's text.
-#[derive(Debug, Drop)]
-pub enum Fault {
-    Memory,
-    Input(&'static str),
-    Io(io::Error),
-}
-
-impl fmt::Display for Fault {
-    fn fmt<W: fmt::Write>(&self, f: &mut fmt::Formatter<W>) -> fmt::Result {
-        match self {
-            Fault::Memory => write!(f, "there is not enough memory"),
-            Fault::Input(what) => write!(f, "{what}"),
-            Fault::Io(why) => write!(f, "{why}"),
-        }
-    }
-}
-
-impl From<AllocError> for Fault {
-    ghost from_gives = { λ _ r. r ≡ Memory };
-
-    fn from(_why: AllocError) -> Fault {
-        Fault::Memory
-    }
-}
-
-// Writing to a `String` fails only for want of memory.
-impl From<fmt::Error> for Fault {
-    ghost from_gives = { λ _ r. r ≡ Memory };
-
-    fn from(_why: fmt::Error) -> Fault {
-        Fault::Memory
-    }
-}
-
-impl From<io::Error> for Fault {
-    ghost from_gives = { λ why r. r ≡ Io why };
-
-    fn from(why: io::Error) -> Fault {
-        Fault::Io(why)
-    }
-}
 
 /// All of standard input.
 pub fn read_all(rt: &HostRuntime) -> Result<Vec<u8>, Fault> {
@@ -60,18 +23,25 @@ pub fn read_all(rt: &HostRuntime) -> Result<Vec<u8>, Fault> {
     Ok(input)
 }
 
+// Output goes out whenever this many bytes of it are there: answers can be many times as long as the input.
+const BUFFER: usize = 65_536;
+
+/// Standard output behind a buffer, which is to be flushed in the end.
+pub fn buffered_output(rt: &HostRuntime) -> Result<BufWriter<Stdout>, Fault>
+    ensures ok { IfOk result (λ w. (writer_capacity w ≡ 65536) × (writer_buffer w ≡ [])) }
+    ensures err { IfErr result (λ why. why ≡ Memory) }
+{
+    BufWriter::with_capacity(rt.alloc(), BUFFER, rt.stdout()).map_err(|_| Fault::Memory)
+}
+
 /// Says on standard error why the program stops early, if it does, and hands the outcome on.
 pub fn tell(rt: &HostRuntime, program: &str, outcome: Result<(), Fault>) -> Result<(), Fault>
     ensures { result ≡ outcome }
 {
-    match outcome {
-        Ok(()) => Ok(()),
-        Err(fault) => {
-            // The program stops anyway, also if there is nobody to hear why.
-            let _ = eprintln!(rt; "{program}: {fault}");
-            Err(fault)
-        }
-    }
+    outcome.inspect_err(|fault| {
+        // The program stops anyway, also if there is nobody to hear why.
+        let _ = eprintln!(rt; "{program}: {fault}");
+    })
 }
 
 /// Says why a program stops early, if it does, and gives the status that it then ends with.

@@ -1,28 +1,25 @@
 // What a line of a script is answered.
-ghost use Rattle.std.specs.Prelude.{◌≡◌, ◌++◌, string_bytes, OnOk};
-ghost use Rattle.rehearse.specs.Answers.{answer_to, number_of, written};
+ghost use Rattle.std.specs.Prelude.{◌≡◌, Some};
+ghost use Rattle.rehearse.specs.Answers.{answer_to, shown, written};
 
+use console::{Answers, Fault};
+use pages::Refusal;
 use std::fmt;
+use std::io::Write;
 
-/// Why a line is turned away.
-#[derive(Clone, Copy)]
-pub enum Refusal {
-    Malformed,
-}
-
-impl Refusal {
-    pub fn number(self) -> u8
-        ensures { result ≡ number_of self }
-    {
-        match self {
-            Refusal::Malformed => 1,
-        }
-    }
-}
-
-#[derive(Clone, Copy)]
+#[derive(Clone, Copy, Debug, PartialEq, Eq)]
 pub enum Answer {
     Refused(Refusal),
+}
+
+impl fmt::Display for Answer {
+    ghost output = { λ answer. Some (shown answer) };
+
+    fn fmt<W: fmt::Write>(&self, f: &mut fmt::Formatter<W>) -> fmt::Result {
+        match self {
+            Answer::Refused(why) => write!(f, "{why}"),
+        }
+    }
 }
 
 /// Nothing but the first line of a script is understood yet.
@@ -32,15 +29,15 @@ pub fn answer_line(line: &[u8]) -> Answer
     Answer::Refused(Refusal::Malformed)
 }
 
-/// Writes the answer to the line numbered `number` behind what `out` holds.
-pub fn report(out: &mut String, number: u64, answer: Answer) -> fmt::Result
-    ensures { OnOk result (string_bytes out.new ≡ string_bytes out.old ++ written number answer) }
-{
-    match answer {
-        Answer::Refused(why) => {
-            let code = why.number();
-            write!(out, "line {number}: refused {code}\n")?;
-            Ok(())
-        }
+/// Answers the lines of a script.
+pub struct Script;
+
+impl Answers for Script {
+    ghost answer = { λ k line. written k (answer_to line) };
+
+    fn write_answer<W: Write>(&self, out: &mut W, number: u64, line: &[u8]) -> Result<(), Fault> {
+        let answer = answer_line(line);
+        writeln!(out, "line {number}: {answer}")?;
+        Ok(())
     }
 }

@@ -1,2 +1,2 @@
 pub mod Spelling
-pub mod Describing
+pub mod Answering

@@ -1,5 +1,6 @@
 -- The messages that lines describe, and what is answered to them.
-use Rattle.std.specs.Prelude.{ℕ, zero, suc, ◌*◌, ◌/◌, ◌%◌, cond, List, [], ◌∷◌, ◌++◌, length, Some, None, codes, Option, nat_lt}
+use Rattle.std.specs.Prelude.{ℕ, ◌*◌, ◌/◌, ◌%◌, cond, List, [], ◌∷◌, ◌++◌, length, Some, None, codes, Option, nat_lt}
+use Rattle.std.specs.List.{repeat}
 use Rattle.digest.specs.Sha256.{sha256_of}
 use Rattle.text.specs.Hex.{hex_byte, hex_digit_of}
 use Rattle.text.specs.Numbers.{decimal_of}
@@ -20,14 +21,9 @@ bytes_of [] = Some []
 bytes_of (x ∷ []) = None
 bytes_of (x ∷ y ∷ zs) = begun (hex_byte x y) (bytes_of zs)
 
--- xs, n times over
-unfoldable pub times : ℕ → List ℕ → List ℕ
-times zero xs = []
-times (suc n) xs = xs ++ times n xs
-
 -- the part n times over, where neither n nor the number of bytes is too great
 unfoldable pub within : ℕ → List ℕ → Option (List ℕ)
-within n part = cond (nat_lt 1000000 n) None (cond (nat_lt 16777216 (n * length part)) None (Some (times n part)))
+within n part = cond (nat_lt 1000000 n) None (cond (nat_lt 16777216 (n * length part)) None (Some (repeat n part)))
 
 abbrev pub over_many : Option ℕ → Option (List ℕ) → Option (List ℕ)
 over_many None part = None

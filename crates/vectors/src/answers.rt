@@ -1,41 +1,42 @@
 // What lines are answered.
-ghost use Rattle.std.specs.Prelude.{◌≡◌, ◌++◌, IfOk, OnOk};
-ghost use Rattle.vectors.specs.Messages.{answer_to};
-ghost use Rattle.vectors.specs.Pieces.{Piece};
+ghost use Rattle.std.specs.Prelude.{OnOk};
+ghost use Rattle.std.specs.Io.KnownBytes.{Appends};
+ghost use Rattle.text.specs.Lines.{lines};
+ghost use Rattle.vectors.specs.Messages.{answer_to, answers};
 
 use crate::hex::append_hex;
-use crate::messages::message;
-use std::alloc::{AllocError, Global};
+use crate::messages::NoMessage;
+use console::{Answers, Fault, answer_lines};
+use std::alloc::Global;
+use std::io::Write;
 
-// Answers go out whenever this many bytes of them are there: they can be many times as long as the input.
-const PIECE: usize = 65_536;
-
-/// Answers lines until `out` holds a piece or no line is left. What is then left is given back.
-pub fn answer_piece<'a>(
-    heap: Global,
-    out: &mut Vec<u8>,
-    input: &'a [u8],
-) -> Result<&'a [u8], AllocError>
-    ensures { IfOk result (λ rest. Piece out.old.items input.now out.new.items rest.now) }
-{
-    let mut rest = input;
-    while let Some((line, after)) = text::first_line(rest) {
-        answer(heap, out, line)?;
-        rest = after;
-        if out.len() >= PIECE {
-            return Ok(rest);
-        }
-    }
-    Ok(rest)
+/// Answers a line with the digest of the message that it describes. The message is put on the heap.
+#[derive(Drop)]
+pub struct Digests {
+    pub heap: Global,
 }
 
-// Writes the answer to a line behind what `out` holds.
-fn answer(heap: Global, out: &mut Vec<u8>, line: &[u8]) -> Result<(), AllocError>
-    ensures { OnOk result (out.new.items ≡ out.old.items ++ answer_to line.now) }
+impl Answers for Digests {
+    ghost answer = { λ _ line. answer_to line };
+
+    #[tactic(auto, unfolding(crate::specs::Messages::answer_to))]
+    fn write_answer<W: Write>(&self, out: &mut W, _number: u64, line: &[u8]) -> Result<(), Fault> {
+        match self.message(line) {
+            Ok(message) => {
+                append_hex(out, &digest::sha256(message.as_slice()))?;
+                out.write_all(b"\n")?;
+            }
+            Err(NoMessage::Refused) => out.write_all(b"refused 1\n")?,
+            Err(NoMessage::Memory) => return Err(Fault::Memory),
+        }
+        Ok(())
+    }
+}
+
+/// Writes the answers to all lines of an input.
+#[tactic(auto, using(crate::proofs::Answering::unnumbered))]
+pub fn answer_all<W: Write>(heap: Global, out: &mut W, input: &[u8]) -> Result<(), Fault>
+    ensures { OnOk result (Appends (W.contents out.old) (W.contents out.new) (answers (lines input.now))) }
 {
-    let Some(message) = message(heap, line)? else {
-        return out.extend_from_slice(b"refused 1\n");
-    };
-    append_hex(out, &digest::sha256(message.as_slice()))?;
-    out.extend_from_slice(b"\n")
+    answer_lines(&Digests { heap }, out, 1, input)
 }

@@ -1,33 +1,36 @@
 // Bytes from and to hexadecimal digits.
-ghost use Rattle.std.specs.Prelude.{◌≡◌, ◌++◌, IfOk, vec_items, OnOk};
-ghost use Rattle.std.specs.Option.{option_map};
+ghost use Rattle.std.specs.Prelude.{vec_items, OnOk};
+ghost use Rattle.std.specs.Io.KnownBytes.{Appends};
 ghost use Rattle.vectors.specs.Messages.{bytes_of, written};
+ghost use Rattle.vectors.specs.Outcomes.{Gives};
 
-use std::alloc::{AllocError, Global};
+use crate::messages::NoMessage;
+use std::alloc::Global;
+use std::io::{self, Write};
 
 /// The bytes that digits of either case write. An odd digit, or a byte that is no digit, refuses them all.
-pub fn unhex(heap: Global, digits: &[u8]) -> Result<Option<Vec<u8>>, AllocError>
-    ensures { IfOk result (λ o. option_map vec_items o ≡ bytes_of digits.now) }
+#[tactic(auto, using(crate::proofs::Spelling::odd, crate::proofs::Spelling::at_first))]
+pub fn unhex(heap: Global, digits: &[u8]) -> Result<Vec<u8>, NoMessage>
+    ensures { Gives vec_items result (bytes_of digits.now) }
 {
-    if digits.len() % 2 != 0 {
-        return Ok(None);
+    let (pairs, []) = digits.as_chunks::<2>() else {
+        return Err(NoMessage::Refused);
+    };
+    let mut bytes = Vec::with_capacity(heap, pairs.len())?;
+    for [high, low] in pairs {
+        let byte = text::hex_byte(*high, *low).ok_or(NoMessage::Refused)?;
+        bytes.push_reserved(byte);
     }
-    let mut bytes = Vec::with_capacity(heap, digits.len() / 2)?;
-    for i in 0..digits.len() / 2 {
-        let Some(b) = text::hex_byte(digits[2 * i], digits[2 * i + 1]) else {
-            return Ok(None);
-        };
-        bytes.push(b)?;
-    }
-    Ok(Some(bytes))
+    Ok(bytes)
 }
 
-/// Writes the digits of bytes behind what `out` holds.
-pub fn append_hex(out: &mut Vec<u8>, bytes: &[u8]) -> Result<(), AllocError>
-    ensures { OnOk result (out.new.items ≡ out.old.items ++ written bytes.now) }
+/// Writes the digits of bytes.
+#[tactic(auto, unfolding(crate::specs::Messages::written))]
+pub fn append_hex<W: Write>(out: &mut W, bytes: &[u8]) -> io::Result<()>
+    ensures { OnOk result (Appends (W.contents out.old) (W.contents out.new) (written bytes.now)) }
 {
     for b in bytes {
-        out.extend_from_slice(&text::hex_pair(*b))?;
+        out.write_all(&text::hex_pair(*b))?;
     }
     Ok(())
 }

@@ -5,7 +5,7 @@ mod answers;
 mod hex;
 mod messages;
 
-use answers::answer_piece;
+use answers::answer_all;
 use console::Fault;
 use std::io::Write;
 use std::process::ExitCode;
@@ -17,16 +17,8 @@ fn main(rt: HostRuntime) -> ExitCode {
 
 fn run(rt: &HostRuntime) -> Result<(), Fault> {
     let input = console::read_all(rt)?;
-    answer_all(rt, input.as_slice())
-}
-
-fn answer_all(rt: &HostRuntime, input: &[u8]) -> Result<(), Fault> {
-    let mut out = Vec::new(rt.alloc());
-    let mut rest = input;
-    while !rest.is_empty() {
-        rest = answer_piece(rt.alloc(), &mut out, rest)?;
-        rt.stdout().write_all(out.as_slice())?;
-        out.clear();
-    }
+    let mut out = console::buffered_output(rt)?;
+    answer_all(rt.alloc(), &mut out, input.as_slice())?;
+    out.flush()?;
     Ok(())
 }
