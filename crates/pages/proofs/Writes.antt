@@ -1,32 +1,54 @@
 -- A page written part behind part into a room.
 -- Assumes nothing.
-use Rattle.std.proofs.Common.{◌≡◌, ℕ, ◌+◌, List, ◌++◌, length, take, drop, sym, ap, ◌∙◌, append_assoc, arith, length-append}
+use Rattle.std.proofs.Common.{◌≡◌, ℕ, ◌+◌, ◌<◌, List, [], ◌∷◌, ◌++◌, length, take, drop, set, sym, ap, refl, ◌∙◌, append_assoc, arith, length-append}
 use borrow.Rule.Slice.PartMut.{put_mid}
-use Rattle.std.proofs.lemmas.List.{drop-drop, drop_at, take_at}
+use Rattle.std.specs.Int.{w16, w32, to_be_bytes}
+use Rattle.std.proofs.lemmas.List.{drop-drop, drop-set, drop_at, take_at}
 use Rattle.pages.specs.Bytes.{Writable, encoded}
-use Rattle.pages.specs.Parts.{Filled, Put}
+use Rattle.pages.specs.Parts.{Put}
 use Rattle.pages.proofs.Codec.{length-encoded}
 
--- a part of the room, from a on, was overwritten by bytes
-pub filled_more : (room front out bytes : List ℕ) (a k end : ℕ) → Filled room front out a → k ≡ length bytes → end ≡ a + length bytes →
-    Filled room (front ++ bytes) (put_mid a k out bytes) end
-filled_more room front out bytes a k end f ke ee =
-    record {
-      size = omega (arith, length-append front bytes, f.size);
-      filled = (λ i. before i ++ (bytes ++ behind i)) ∙ sym (append_assoc front bytes (drop end room));
-    } where
-      before : take a out ≡ front
-      before = ap (take a) f.filled ∙ take_at front (drop a room) a (sym f.size)
+-- a write of bytes right behind front, with which the room begins
+behind : (room front out bytes : List ℕ) (a k : ℕ) → out ≡ front ++ drop a room → length front ≡ a → k ≡ length bytes →
+    put_mid a k out bytes ≡ (front ++ bytes) ++ drop (a + k) room
+behind room front out bytes a k e l ke = (λ i. before i ++ (bytes ++ after i)) ∙ sym (append_assoc front bytes (drop (a + k) room)) where
+  before : take a out ≡ front
+  before = ap (take a) e ∙ take_at front (drop a room) a l
 
-      behind : drop k (drop a out) ≡ drop end room
-      behind = ap (λ l. drop k (drop a l)) f.filled ∙ ap (drop k) (drop_at front (drop a room) a (sym f.size)) ∙ drop-drop k a room ∙ ap (λ n. drop n room) (omega arith)
+  after : drop k (drop a out) ≡ drop (a + k) room
+  after = ap (λ l. drop k (drop a l)) e ∙ ap (drop k) (drop_at front (drop a room) a l) ∙ drop-drop k a room
 
--- a room that a page's bytes fill
-pub put_whole : (h : ℕ) (p r : List ℕ) → Writable h p r → (room front room' : List ℕ) (n : ℕ) → Filled room front room' n → front ≡ encoded h p r → Put h p r room room' n
-put_whole h p r w room front room' n f e =
-    record {
-      writable = w;
-      size = f.size ∙ ap length e ∙ length-encoded h p r w;
-      front = ap (take n) f.filled ∙ take_at front (drop n room) n (sym f.size) ∙ e;
-      rest = ap (drop n) f.filled ∙ drop_at front (drop n room) n (sym f.size);
-    }
+module _ (h : ℕ) (p r room : List ℕ) (k : ℕ) (w : Writable h p r) (some : 0 < length room) (all : k ≡ length r) where
+  -- the room once the five parts are in it
+  abbrev pub written : List ℕ
+  written = put_mid 39 k (put_mid 37 2 (put_mid 5 32 (put_mid 1 4 (set room 0 1) (to_be_bytes w32 h)) p) (to_be_bytes w16 (length r))) r
+
+  -- a page's first 5, 37 and 39 bytes
+  abbrev first5 : List ℕ
+  first5 = 1 ∷ to_be_bytes w32 h
+
+  abbrev first37 : List ℕ
+  first37 = first5 ++ p
+
+  abbrev first39 : List ℕ
+  first39 = first37 ++ to_be_bytes w16 (length r)
+
+  written_is : written ≡ encoded h p r ++ drop (39 + k) room
+  unfolding encoded
+  written_is =
+      behind room first39 _ r 39 k
+      (behind room first37 _ (to_be_bytes w16 (length r)) 37 2
+      (behind room first5 _ p 5 32 (behind room (1 ∷ []) _ (to_be_bytes w32 h) 1 4 (drop-set room 0 1 some) refl refl) refl (sym w.digest))
+      (omega (arith, w.digest)) refl)
+      (omega (arith, w.digest, length-append p (to_be_bytes w16 (length r)))) all ∙
+      ap (λ l. first5 ++ (l ++ drop (39 + k) room)) (append_assoc p (to_be_bytes w16 (length r)) r)
+
+  pub put_whole : Put h p r room written (39 + length r)
+  put_whole =
+      let n = length-encoded h p r w in
+      record {
+        writable = w;
+        size = refl;
+        front = ap (take (39 + length r)) written_is ∙ take_at (encoded h p r) (drop (39 + k) room) (39 + length r) n;
+        rest = ap (drop (39 + length r)) written_is ∙ drop_at (encoded h p r) (drop (39 + k) room) (39 + length r) n ∙ ap (λ m. drop (39 + m) room) all;
+      }

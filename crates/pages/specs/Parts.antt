@@ -1,5 +1,5 @@
 -- What a page's bytes come apart into.
-use Rattle.std.specs.Prelude.{◌≡◌, ℕ, ◌+◌, List, ◌++◌, length, take, drop}
+use Rattle.std.specs.Prelude.{◌≡◌, ℕ, ◌+◌, List, length, take, drop}
 use Rattle.pages.specs.Bytes.{encoded, height_of, parent_of, receipts_of, Writable}
 
 -- height, parent's digest and receipts are those that stand in the bytes, and encode to just these bytes
@@ -16,8 +16,3 @@ pub record Put (height : ℕ) (parent receipts before after : List ℕ) (n : ℕ
   pub size : n ≡ 39 + length receipts
   pub front : take n after ≡ encoded height parent receipts
   pub rest : drop n after ≡ drop n before
-
--- front was written at the beginning of a room, in n bytes, and the rest of the room is as before
-pub record Filled (room front room' : List ℕ) (n : ℕ) : Type 0 where
-  pub size : n ≡ length front
-  pub filled : room' ≡ front ++ drop n room

@@ -1,7 +1,7 @@
 // A page's parts, decoded from and encoded to bytes.
 ghost use Rattle.std.specs.Prelude.{◌≡◌, ℕ, ◌+◌, ◌<◌, ◌≤◌, true, false, List, ◌++◌, length, MatchOption};
 ghost use Rattle.pages.specs.Bytes.{well_formed, DecodesEncoded, EncodesDecoded};
-ghost use Rattle.pages.specs.Parts.{Apart, Filled, Put};
+ghost use Rattle.pages.specs.Parts.{Apart, Put};
 
 /// SHA-256 of a page's bytes.
 pub type Digest = [u8; 32];
@@ -14,6 +14,9 @@ pub const LONGEST: usize = 1_063;
 
 // The first byte of every page.
 const KIND: u8 = 1;
+
+// The receipts of a page begin here, behind its kind, its height, its parent's digest and their length.
+const HEAD: usize = 39;
 
 /// What a page's bytes say. The receipts stay where they lie.
 #[derive(Clone, Copy, Debug, PartialEq, Eq)]
@@ -43,17 +46,6 @@ pub fn decode(bytes: &[u8]) -> Option<Parts<'_>>
     })
 }
 
-// Writes bytes behind the first `at` of out, and says where they end.
-fn append(out: &mut [u8], at: usize, bytes: &[u8]) -> usize
-    requires { at + length bytes.now ≤ length out.old }
-    ensures end { result ≡ at + length bytes.now }
-    ensures filled { (room front : List ℕ) → Filled room front out.old at → Filled room (front ++ bytes.now) out.new result }
-{
-    let end = at + bytes.len();
-    out[at..end].copy_from_slice(bytes);
-    end
-}
-
 /// Writes a page's bytes at the beginning of out, and says how many they are. None, and nothing is written, where there are more
 /// receipts than a page holds.
 // The room is lent, so nothing is taken from memory; a part of it handed back in place of its size would keep callers from knowing
@@ -65,11 +57,13 @@ pub fn encode(parts: Parts<'_>, out: &mut [u8; LONGEST]) -> Option<usize>
     if count > MOST_RECEIPTS {
         return None;
     }
-    let kind_end = append(out, 0, &[KIND]);
-    let height_end = append(out, kind_end, &parts.height.to_be_bytes());
-    let parent_end = append(out, height_end, &parts.parent);
-    let count_end = append(out, parent_end, &(count as u16).to_be_bytes());
-    Some(append(out, count_end, parts.receipts))
+    let end = HEAD + count;
+    out[0] = KIND;
+    out[1..5].copy_from_slice(&parts.height.to_be_bytes());
+    out[5..37].copy_from_slice(&parts.parent);
+    out[37..HEAD].copy_from_slice(&(count as u16).to_be_bytes());
+    out[HEAD..end].copy_from_slice(parts.receipts);
+    Some(end)
 }
 
 /// What is encoded decodes to itself, and what is decoded encodes to the same bytes.
