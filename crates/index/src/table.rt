@@ -41,7 +41,7 @@ impl Index {
         if n as usize == MOST {
             return None;
         }
-        // There is room for it since the start.
+        // There is room for it since the start, so that no `?` hands on a want of memory. The type says that this is meant.
         let entered: Result<_, _> = self.numbers.insert(Key(key), n);
         entered.unwrap();
         self.keys.push_reserved(key);

@@ -1,4 +1,5 @@
 // The lines and the words of an input as iterators.
+// They are two types and not one over a trait: they share two lines of code, and the trait would have as many for each.
 ghost use Rattle.std.specs.Iterator.{YieldsFirstBy, item_count};
 
 use crate::{first_line, first_word};
