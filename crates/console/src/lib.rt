@@ -1,10 +1,8 @@
 // What the programs share at their edges: standard input read whole, lines answered one by one, and why a program stops early.
 #![tactic(auto)]
 
-ghost use Rattle.std.specs.Prelude.{◌≡◌, [], IfErr, IfOk, OnErr, OnOk};
-ghost use Rattle.std.specs.Io.Buffered.{writer_buffer, writer_capacity};
+ghost use Rattle.std.specs.Prelude.{◌≡◌, OnErr, OnOk};
 ghost use Rattle.std.specs.Process.{exit_status};
-ghost use Rattle.console.specs.declared.fault.Fault.TheVariants.{Memory};
 
 mod answers;
 mod fault;
@@ -13,7 +11,7 @@ mod tests;
 
 pub use answers::{Answers, answer_lines};
 pub use fault::Fault;
-use std::io::{BufWriter, Read, Stdout};
+use std::io::Read;
 use std::process::ExitCode;
 
 /// All of standard input.
@@ -21,17 +19,6 @@ pub fn read_all(rt: &HostRuntime) -> Result<Vec<u8>, Fault> {
     let mut input = Vec::new(rt.alloc());
     rt.stdin().read_to_end(&mut input)?;
     Ok(input)
-}
-
-// Output goes out whenever this many bytes of it are there: answers can be many times as long as the input.
-const BUFFER: usize = 65_536;
-
-/// Standard output behind a buffer, which is to be flushed in the end.
-pub fn buffered_output(rt: &HostRuntime) -> Result<BufWriter<Stdout>, Fault>
-    ensures ok { IfOk result (λ w. (writer_capacity w ≡ 65536) × (writer_buffer w ≡ [])) }
-    ensures err { IfErr result (λ why. why ≡ Memory) }
-{
-    BufWriter::with_capacity(rt.alloc(), BUFFER, rt.stdout()).map_err(|_| Fault::Memory)
 }
 
 /// Says on standard error why the program stops early, if it does, and hands the outcome on.

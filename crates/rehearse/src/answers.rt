@@ -7,6 +7,8 @@ use pages::Refusal;
 use std::fmt;
 use std::io::Write;
 
+/// What a line comes to.
+// It has one case as long as no line is understood: a `Result` would have an `Ok` that nothing gives.
 #[derive(Clone, Copy, Debug, PartialEq, Eq)]
 pub enum Answer {
     Refused(Refusal),
@@ -35,9 +37,9 @@ pub struct Script;
 impl Answers for Script {
     ghost answer = { λ k line. written k (answer_to line) };
 
-    fn write_answer<W: Write>(&self, out: &mut W, number: u64, line: &[u8]) -> Result<(), Fault> {
+    fn write_answer(&self, out: &mut Vec<u8>, number: u64, line: &[u8]) -> Result<(), Fault> {
         let answer = answer_line(line);
-        writeln!(out, "line {number}: {answer}")?;
-        Ok(())
+        // Writing to a vector fails only for want of memory.
+        writeln!(out, "line {number}: {answer}").map_err(|_| Fault::Memory)
     }
 }

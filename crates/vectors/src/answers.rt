@@ -1,6 +1,7 @@
 // What lines are answered.
-ghost use Rattle.std.specs.Prelude.{OnOk};
+ghost use Rattle.std.specs.Prelude.{IfErr, OnOk};
 ghost use Rattle.std.specs.Io.KnownBytes.{Appends};
+ghost use Rattle.console.specs.Answers.{IsOfOutput};
 ghost use Rattle.text.specs.Lines.{lines};
 ghost use Rattle.vectors.specs.Messages.{answer_to, answers};
 
@@ -20,13 +21,13 @@ impl Answers for Digests {
     ghost answer = { λ _ line. answer_to line };
 
     #[tactic(auto, unfolding(crate::specs::Messages::answer_to))]
-    fn write_answer<W: Write>(&self, out: &mut W, _number: u64, line: &[u8]) -> Result<(), Fault> {
+    fn write_answer(&self, out: &mut Vec<u8>, _number: u64, line: &[u8]) -> Result<(), Fault> {
         match self.message(line) {
             Ok(message) => {
                 append_hex(out, &digest::sha256(message.as_slice()))?;
-                out.write_all(b"\n")?;
+                out.extend_from_slice(b"\n")?;
             }
-            Err(NoMessage::Refused) => out.write_all(b"refused 1\n")?,
+            Err(NoMessage::Refused) => out.extend_from_slice(b"refused 1\n")?,
             Err(NoMessage::Memory) => return Err(Fault::Memory),
         }
         Ok(())
@@ -36,7 +37,8 @@ impl Answers for Digests {
 /// Writes the answers to all lines of an input.
 #[tactic(auto, using(crate::proofs::Answering::unnumbered))]
 pub fn answer_all<W: Write>(heap: Global, out: &mut W, input: &[u8]) -> Result<(), Fault>
-    ensures { OnOk result (Appends (W.contents out.old) (W.contents out.new) (answers (lines input.now))) }
+    ensures ok { OnOk result (Appends (W.contents out.old) (W.contents out.new) (answers (lines input.now))) }
+    ensures err { IfErr result IsOfOutput }
 {
-    answer_lines(&Digests { heap }, out, 1, input)
+    answer_lines(&Digests { heap }, heap, out, 1, input)
 }

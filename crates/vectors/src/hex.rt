@@ -1,12 +1,10 @@
 // Bytes from and to hexadecimal digits.
-ghost use Rattle.std.specs.Prelude.{vec_items, OnOk};
-ghost use Rattle.std.specs.Io.KnownBytes.{Appends};
+ghost use Rattle.std.specs.Prelude.{◌≡◌, ◌++◌, vec_items, OnOk};
 ghost use Rattle.vectors.specs.Messages.{bytes_of, written};
 ghost use Rattle.vectors.specs.Outcomes.{Gives};
 
 use crate::messages::NoMessage;
-use std::alloc::Global;
-use std::io::{self, Write};
+use std::alloc::{AllocError, Global};
 
 /// The bytes that digits of either case write. An odd digit, or a byte that is no digit, refuses them all.
 #[tactic(auto, using(crate::proofs::Spelling::odd, crate::proofs::Spelling::at_first))]
@@ -24,13 +22,13 @@ pub fn unhex(heap: Global, digits: &[u8]) -> Result<Vec<u8>, NoMessage>
     Ok(bytes)
 }
 
-/// Writes the digits of bytes.
+/// Writes the digits of bytes behind what `out` holds.
 #[tactic(auto, unfolding(crate::specs::Messages::written))]
-pub fn append_hex<W: Write>(out: &mut W, bytes: &[u8]) -> io::Result<()>
-    ensures { OnOk result (Appends (W.contents out.old) (W.contents out.new) (written bytes.now)) }
+pub fn append_hex(out: &mut Vec<u8>, bytes: &[u8]) -> Result<(), AllocError>
+    ensures { OnOk result (out.new.items ≡ out.old.items ++ written bytes.now) }
 {
     for b in bytes {
-        out.write_all(&text::hex_pair(*b))?;
+        out.extend_from_slice(&text::hex_pair(*b))?;
     }
     Ok(())
 }

@@ -7,7 +7,6 @@ mod messages;
 
 use answers::answer_all;
 use console::Fault;
-use std::io::Write;
 use std::process::ExitCode;
 
 fn main(rt: HostRuntime) -> ExitCode {
@@ -17,8 +16,5 @@ fn main(rt: HostRuntime) -> ExitCode {
 
 fn run(rt: &HostRuntime) -> Result<(), Fault> {
     let input = console::read_all(rt)?;
-    let mut out = console::buffered_output(rt)?;
-    answer_all(rt.alloc(), &mut out, input.as_slice())?;
-    out.flush()?;
-    Ok(())
+    answer_all(rt.alloc(), &mut rt.stdout(), input.as_slice())
 }
