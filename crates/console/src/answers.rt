@@ -24,7 +24,8 @@ pub trait Answers {
 const PIECE: usize = 65_536;
 
 /// Writes the answers to all lines of an input, which are numbered from `first` on.
-// An input has no more lines than bytes, so their numbers fit.
+// An input has no more lines than bytes, so their numbers fit. Heap, writer and input stay three: a struct of them would be made at
+// each call, and taken apart at once.
 #[tactic(auto, using(text::proofs::Counts::length_lines))]
 pub fn answer_lines<A: Answers, W: Write>(
     answers: &A,

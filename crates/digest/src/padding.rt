@@ -10,6 +10,7 @@ fn padded_end<const N: usize>(rest: &[u8], bits: u64) -> [u8; N]
     ensures { result ≡ ended rest.now bits }
 {
     let mut end = [0; N];
+    // Parts of an array are lent only where its length is a number; those of a slice always.
     let bytes = &mut end[..];
     bytes[..rest.len()].copy_from_slice(rest);
     bytes[rest.len()] = 0x80;

@@ -15,7 +15,8 @@ mod table;
 /// No more keys than this are held.
 pub const MOST: usize = 4_096;
 
-// A key of the map. It is hashed by hand, in one go: an array's own hash takes the bytes one by one, and a look-up 57 ns in place of 7.
+// A key of the map. It is hashed by hand, in one go: an array's own hash takes the bytes one by one, and a look-up then takes 57 ns
+// in place of 7.
 #[derive(Clone, Copy, PartialEq, Eq)]
 struct Key([u8; 32]);
 
@@ -33,6 +34,7 @@ impl Hash for Key {
 /// All memory is taken when it is made, so no later call fails for want of it.
 #[derive(Drop)]
 pub struct Index {
+    // By number. When the program runs their count alone is asked for; the contracts speak of the list.
     keys: Vec<[u8; 32]>,
     // The number under which each key was entered last.
     numbers: HashMap<Key, u32>,

@@ -41,7 +41,8 @@ impl Index {
         if n as usize == MOST {
             return None;
         }
-        // There is room for it since the start, so that no `?` hands on a want of memory. The type says that this is meant.
+        // There has been room for it since the start, so this can't fail, and `unwrap` is proved. The type is written since a want
+        // of memory would else have to be handed on by `?`.
         let entered: Result<_, _> = self.numbers.insert(Key(key), n);
         entered.unwrap();
         self.keys.push_reserved(key);

@@ -58,6 +58,7 @@ pub fn encode(parts: Parts<'_>, out: &mut [u8; LONGEST]) -> Option<usize>
         return None;
     }
     let end = HEAD + count;
+    // The places are those of docs/FORMATS.md.
     out[0] = KIND;
     out[1..5].copy_from_slice(&parts.height.to_be_bytes());
     out[5..37].copy_from_slice(&parts.parent);

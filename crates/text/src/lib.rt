@@ -44,7 +44,8 @@ pub fn first_line(s: &[u8]) -> Option<(&[u8], &[u8])>
     Some((without_return(front), rest))
 }
 
-// What stands before the first space, and the rest from that space on.
+// What stands before the first space, and the rest from that space on. Not by `cut`: the rest keeps its space here, and the search
+// is all that the two share.
 fn split_word(s: &[u8]) -> (&[u8], &[u8])
     ensures { Word s.now result.0.now result.1.now }
 {

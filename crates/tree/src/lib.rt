@@ -24,6 +24,7 @@ pub struct Columns {
 }
 
 /// The same, lent.
+// Two slices, as the columns are two.
 #[derive(Clone, Copy)]
 pub struct Tree<'a> {
     parents: &'a [u32],

@@ -6,16 +6,10 @@ ghost use Rattle.text.specs.Lines.{lines};
 ghost use Rattle.vectors.specs.Messages.{answer_to, answers};
 
 use crate::hex::append_hex;
-use crate::messages::NoMessage;
+use crate::messages::{Digests, NoMessage};
 use console::{Answers, Fault, answer_lines};
 use std::alloc::Global;
 use std::io::Write;
-
-/// Answers a line with the digest of the message that it describes. The message is put on the heap.
-#[derive(Drop)]
-pub struct Digests {
-    pub heap: Global,
-}
 
 impl Answers for Digests {
     ghost answer = { λ _ line. answer_to line };
@@ -27,6 +21,7 @@ impl Answers for Digests {
                 append_hex(out, &digest::sha256(message.as_slice()))?;
                 out.extend_from_slice(b"\n")?;
             }
+            // The one refusal of this program, so written out: `pages`, which prints them, would be leant on for this alone.
             Err(NoMessage::Refused) => out.extend_from_slice(b"refused 1\n")?,
             Err(NoMessage::Memory) => return Err(Fault::Memory),
         }

@@ -5,9 +5,8 @@ ghost use Rattle.vectors.specs.Messages.{bytes_of, message_of, over_many};
 ghost use Rattle.vectors.specs.Outcomes.{Gives};
 ghost use Rattle.vectors.specs.declared.messages.NoMessage.TheVariants.{Memory};
 
-use crate::answers::Digests;
 use crate::hex::unhex;
-use std::alloc::AllocError;
+use std::alloc::{AllocError, Global};
 
 const MOST_TIMES: u32 = 1_000_000;
 
@@ -27,6 +26,12 @@ impl From<AllocError> for NoMessage {
     fn from(_why: AllocError) -> NoMessage {
         NoMessage::Memory
     }
+}
+
+/// Answers a line with the digest of the message that it describes. The message is put on the heap.
+#[derive(Drop)]
+pub struct Digests {
+    pub heap: Global,
 }
 
 impl Digests {

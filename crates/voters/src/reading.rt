@@ -20,7 +20,7 @@ impl Voters {
             return None;
         }
         let weights = row(rest)?;
-        // No number at all is among these too.
+        // A line with no number at all ends here too.
         if weights.iter().all(|w| *w == 0) {
             return None;
         }
@@ -63,6 +63,7 @@ fn row(s: &[u8]) -> Option<[u32; MOST]>
     ensures { MatchOption result ((xs : List ℕ) → Lists (words s.now) xs → ⊥) (λ row. Row (words s.now) row (length (words s.now))) }
 {
     let mut weights = [0u32; MOST];
+    // By place: of a row that is written through `iter_mut` nothing would be known but its length.
     for (voter, word) in text::words(s).enumerate() {
         weights[voter] = weight(word)?;
     }
