@@ -15,7 +15,7 @@ pub trait Answers {
     ghost answer: { ℕ → List ℕ → List ℕ };
 
     /// Writes the answer to a line behind what `out` holds.
-    fn write_answer(&self, out: &mut Vec<u8>, number: u64, line: &[u8]) -> Result<(), Fault>
+    fn write_answer(&mut self, out: &mut Vec<u8>, number: u64, line: &[u8]) -> Result<(), Fault>
         ensures ok { OnOk result (out.new.items ≡ out.old.items ++ answer number line.now) }
         ensures err { IfErr result (λ why. why ≡ Memory) };
 }
@@ -28,7 +28,7 @@ const PIECE: usize = 65_536;
 // each call, and taken apart at once.
 #[tactic(auto, using(text::proofs::Counts::length_lines))]
 pub fn answer_lines<A: Answers, W: Write>(
-    answers: &A,
+    answers: &mut A,
     heap: Global,
     out: &mut W,
     first: u32,

@@ -5,7 +5,6 @@ ghost use Rattle.rehearse.specs.Answers.{answer_to, shown, written};
 use console::{Answers, Fault};
 use pages::Refusal;
 use std::fmt;
-use std::io::Write;
 
 /// What a line comes to.
 // It has one case as long as no line is understood: a `Result` would have an `Ok` that nothing gives.
@@ -31,15 +30,20 @@ pub fn answer_line(line: &[u8]) -> Answer
     Answer::Refused(Refusal::Malformed)
 }
 
-/// Answers the lines of a script.
-pub struct Script;
+/// Answers the lines of a script. The text of an answer is put together in a string, which is kept for the next one.
+#[derive(Drop)]
+pub struct Script {
+    pub text: String,
+}
 
 impl Answers for Script {
     ghost answer = { λ k line. written k (answer_to line) };
 
-    fn write_answer(&self, out: &mut Vec<u8>, number: u64, line: &[u8]) -> Result<(), Fault> {
+    fn write_answer(&mut self, out: &mut Vec<u8>, number: u64, line: &[u8]) -> Result<(), Fault> {
         let answer = answer_line(line);
-        // Writing to a vector fails only for want of memory.
-        writeln!(out, "line {number}: {answer}").map_err(|_| Fault::Memory)
+        self.text.clear();
+        writeln!(self.text, "line {number}: {answer}")?;
+        out.extend_from_slice(self.text.as_bytes())?;
+        Ok(())
     }
 }

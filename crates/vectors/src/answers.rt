@@ -15,7 +15,7 @@ impl Answers for Digests {
     ghost answer = { λ _ line. answer_to line };
 
     #[tactic(auto, unfolding(crate::specs::Messages::answer_to))]
-    fn write_answer(&self, out: &mut Vec<u8>, _number: u64, line: &[u8]) -> Result<(), Fault> {
+    fn write_answer(&mut self, out: &mut Vec<u8>, _number: u64, line: &[u8]) -> Result<(), Fault> {
         match self.message(line) {
             Ok(message) => {
                 append_hex(out, &digest::sha256(message.as_slice()))?;
@@ -35,5 +35,5 @@ pub fn answer_all<W: Write>(heap: Global, out: &mut W, input: &[u8]) -> Result<(
     ensures ok { OnOk result (Appends (W.contents out.old) (W.contents out.new) (answers (lines input.now))) }
     ensures err { IfErr result IsOfOutput }
 {
-    answer_lines(&Digests { heap }, heap, out, 1, input)
+    answer_lines(&mut Digests { heap }, heap, out, 1, input)
 }
