@@ -14,26 +14,26 @@ use Rattle.voters.specs.declared.Voters.{Voters}
 -- while the words ws are read, with left still to come: n weights stand in the row
 pub record Filling (ws left : List (List ℕ)) (row : List ℕ) (n : ℕ) : Type 0 where
   pub values : map decimal_of ws ≡ map Some (take n row) ++ map decimal_of left
-  pub few : n + length left ≤ 64
+  pub few : n ≤ 64
   pub long : length row ≡ 64
   pub light : AllByRecursion (λ w. w ≤ 1000000) (take n row)
   pub past : (k : ℕ) → n ≤ k → get_or row k 0 ≡ 0
 
-pub filling_none : (ws left : List (List ℕ)) (n : ℕ) → left ≡ ws → n ≡ 0 → length ws ≤ 64 → Filling ws left (replicate 64 0) n
-filling_none ws left n e z few =
+pub filling_none : (ws left : List (List ℕ)) (n : ℕ) → left ≡ ws → n ≡ 0 → Filling ws left (replicate 64 0) n
+filling_none ws left n e z =
     record {
       values = ap (map decimal_of) (sym e) ∙ (λ i. map Some (take (sym z i) (replicate 64 0)) ++ map decimal_of left);
-      few = omega (arith, ap length e);
+      few = omega (arith, z);
       long = refl;
       light = subst (λ m. AllByRecursion (λ w. w ≤ 1000000) (take m (replicate 64 0))) (sym z) tt;
       past = λ k h. elim (cases_lt k 64) [ inl l ↦ get_or-replicate 64 k 0 0 l | inr l ↦ get_or_past (replicate 64 0) k 0 l ];
     }
 
-pub filling_more : (ws left : List (List ℕ)) (row : List ℕ) (n : ℕ) (w : List ℕ) (x : ℕ) → Filling ws (w ∷ left) row n → decimal_of w ≡ Some x → x ≤ 1000000 → Filling ws left (set row n x) (n + 1)
-filling_more ws left row n w x f e small =
+pub filling_more : (ws left : List (List ℕ)) (row : List ℕ) (n : ℕ) (w : List ℕ) (x : ℕ) → Filling ws (w ∷ left) row n → n < 64 → decimal_of w ≡ Some x → x ≤ 1000000 → Filling ws left (set row n x) (n + 1)
+filling_more ws left row n w x f room e small =
     record {
       values = rw here (simp (map_push, append_assoc) (f.values ∙ (λ i. map Some (take n row) ++ (e i ∷ map decimal_of left))));
-      few = let a = f.few in omega arith;
+      few = omega arith;
       long = length-set row n x ∙ f.long;
       light = subst (λ t. AllByRecursion (λ w. w ≤ 1000000) t) (sym here) (All-push (λ w. w ≤ 1000000) (take n row) x f.light small);
       past = λ k h. get_or-set_other row n k x 0 (λ e. omega arith) ∙ f.past k (omega arith);

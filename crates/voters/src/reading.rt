@@ -15,8 +15,7 @@ impl Voters {
         ensures { MatchOption result ((xs : List ℕ) → Names line.now xs → ⊥) (λ v. Names line.now (weights_of v) × ((xs : List ℕ) → Names line.now xs → xs ≡ weights_of v)) }
     {
         let (head, rest) = text::first_word(line)?;
-        let count = text::words(rest).count();
-        if head != b"weights".as_slice() || count > MOST {
+        if head != b"weights".as_slice() {
             return None;
         }
         let weights = row(rest)?;
@@ -24,10 +23,8 @@ impl Voters {
         if weights.iter().all(|w| *w == 0) {
             return None;
         }
-        Some(Voters {
-            count: count as u32,
-            weights,
-        })
+        let count = text::words(rest).count() as u32;
+        Some(Voters { count, weights })
     }
 
     /// How many voters there are.
@@ -59,12 +56,14 @@ impl Voters {
 
 // The weights that the words of `s` are, with 0 at the places behind them.
 fn row(s: &[u8]) -> Option<[u32; MOST]>
-    requires { length (words s.now) ≤ 64 }
     ensures { MatchOption result ((xs : List ℕ) → Lists (words s.now) xs → ⊥) (λ row. Row (words s.now) row (length (words s.now))) }
 {
     let mut weights = [0u32; MOST];
     // By place: of a row that is written through `iter_mut` nothing would be known but its length.
     for (voter, word) in text::words(s).enumerate() {
+        if voter == MOST {
+            return None;
+        }
         weights[voter] = weight(word)?;
     }
     Some(weights)

@@ -1,14 +1,16 @@
-use Rattle.std.proofs.Common.{◌≡◌, [], rules}
+use Rattle.std.proofs.Common.{◌≡◌, ◌<◌, [], rules, arith}
 use Rattle.voters.proofs.Rows.{filled, filling_none, filling_more, filling_bad}
 use Rattle.voters.proofs.reading.row.Goals as goal
 
 pub loop-voter-init : goal.loop-voter-init
-loop-voter-init c = filling_none _ _ _ (cc) (cc) c.requires
+loop-voter-init c = filling_none _ _ _ (cc) (cc)
 
 pub loop-voter-preserved : goal.loop-voter-preserved
 loop-voter-preserved c =
     let h = c.in-Some.ensures.steps in
-    rw (h.1, h.2) (filling_more _ _ _ _ _ _ (rw h.0 at c.loop-voter.invariant) c.in_ok-weights.ensures.0 c.in_ok-weights.ensures.1)
+    let f = rw h.0 at c.loop-voter.invariant in
+    let room : c.loop-voter.voter-iterator.count < 64 = search (rules, arith, f.few, h.1) in
+    rw (h.1, h.2) (filling_more _ _ _ _ _ _ f room c.in_ok-weights.ensures.0 c.in_ok-weights.ensures.1)
 
 pub returns-in_err-weights : goal.returns-in_err-weights
 returns-in_err-weights c =
