@@ -1,8 +1,9 @@
 // Lines that are answered one by one.
-ghost use Rattle.std.specs.Prelude.{◌≡◌, ℕ, List, ◌++◌, IfErr, OnOk};
+ghost use Rattle.std.specs.Prelude.{◌≡◌, ℕ, ◌+◌, ◌^◌, ◌<◌, List, ◌++◌, length, IfErr, IfOk, OnOk};
 ghost use Rattle.std.specs.Io.KnownBytes.{Appends};
 ghost use Rattle.text.specs.Lines.{lines};
 ghost use Rattle.console.specs.Answers.{answers_to, IsOfOutput};
+ghost use Rattle.console.specs.Pieces.{Piece};
 ghost use Rattle.console.specs.declared.fault.Fault.TheVariants.{Memory};
 
 use crate::fault::Fault;
@@ -23,10 +24,39 @@ pub trait Answers {
 // Answers go out whenever this many bytes of them are there: they can be many times as long as the input.
 const PIECE: usize = 65_536;
 
+// How far an input is answered: what is left of it, and the number of the first line of that.
+#[derive(Clone, Copy)]
+struct Place<'a> {
+    rest: &'a [u8],
+    number: u64,
+}
+
+// Answers lines from a place on until `piece` holds enough to go out or no line is left, and says how far it came. An input has no
+// more lines than bytes, so their numbers fit.
+fn answer_piece<'a, A: Answers>(
+    answers: &mut A,
+    piece: &mut Vec<u8>,
+    from: Place<'a>,
+) -> Result<Place<'a>, Fault>
+    requires { from.number + length from.rest.now < 2 ^ 64 }
+    ensures ok { IfOk result (λ p. Piece A.answer piece.old.items from.entry.rest.now from.entry.number piece.new.items p.rest.now p.number) }
+    ensures err { IfErr result (λ why. why ≡ Memory) }
+{
+    let mut rest = from.rest;
+    let mut number = from.number;
+    while let Some((line, after)) = text::first_line(rest) {
+        answers.write_answer(piece, number, line)?;
+        number += 1;
+        rest = after;
+        if piece.len() >= PIECE {
+            break;
+        }
+    }
+    Ok(Place { rest, number })
+}
+
 /// Writes the answers to all lines of an input, which are numbered from `first` on.
-// An input has no more lines than bytes, so their numbers fit. Heap, writer and input stay three: a struct of them would be made at
-// each call, and taken apart at once.
-#[tactic(auto, using(text::proofs::Counts::length_lines))]
+// Heap, writer and input stay three: a struct of them would be made at each call, and taken apart at once.
 pub fn answer_lines<A: Answers, W: Write>(
     answers: &mut A,
     heap: Global,
@@ -38,13 +68,14 @@ pub fn answer_lines<A: Answers, W: Write>(
     ensures err { IfErr result IsOfOutput }
 {
     let mut piece = Vec::new(heap);
-    for (number, line) in (u64::from(first)..).zip(text::lines(input)) {
-        answers.write_answer(&mut piece, number, line)?;
-        if piece.len() >= PIECE {
-            out.write_all(piece.as_slice())?;
-            piece.clear();
-        }
+    let mut place = Place {
+        rest: input,
+        number: u64::from(first),
+    };
+    while !place.rest.is_empty() {
+        place = answer_piece(answers, &mut piece, place)?;
+        out.write_all(piece.as_slice())?;
+        piece.clear();
     }
-    out.write_all(piece.as_slice())?;
     Ok(())
 }

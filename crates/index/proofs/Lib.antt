@@ -1,1 +1,3 @@
+pub mod Lasts
 pub mod Finds
+pub mod Chained

@@ -1,2 +1,3 @@
 pub mod Find
+pub mod Chains
 pub mod Held

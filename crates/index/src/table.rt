@@ -1,11 +1,14 @@
-// How keys are entered and found.
-ghost use Rattle.std.specs.Prelude.{◌≡◌, ◌<◌, ◌≤◌, [], ◌∷◌, ◌++◌, length, is_some, IfOk, if◌then◌else◌, nat_lt};
+// The table: chains of the keys that begin with the same two bytes, from the last one back to the first.
+ghost use Rattle.std.specs.Prelude.{◌≡◌, ◌<◌, ◌≤◌, [], ◌∷◌, ◌++◌, length, is_some, IfOk, if◌then◌else◌, Some, None, nat_lt};
 ghost use Rattle.index.specs.Find.{find};
+ghost use Rattle.index.specs.Chains.{bucket};
 ghost use Rattle.index.specs.Held.{keys_of};
 
-use super::{Index, Key, MOST};
+use super::{Index, MOST};
 use std::alloc::{AllocError, Global};
-use std::collections::HashMap;
+
+// There are so many pairs of bytes.
+const PAIRS: usize = 65_536;
 
 impl Index {
     /// An index with no keys.
@@ -13,8 +16,9 @@ impl Index {
         ensures { IfOk result (λ x. keys_of x ≡ []) }
     {
         let keys = Vec::with_capacity(heap, MOST)?;
-        let numbers = HashMap::with_capacity(heap, MOST)?;
-        Ok(Index { keys, numbers })
+        let older = Vec::with_capacity(heap, MOST)?;
+        let heads = vec![in heap; 0u32; PAIRS]?;
+        Ok(Index { keys, heads, older })
     }
 
     /// How many keys there are.
@@ -29,7 +33,15 @@ impl Index {
     pub fn find(&self, key: &[u8; 32]) -> Option<u32>
         ensures { result ≡ find (keys_of self.now) key.now }
     {
-        self.numbers.get(&Key(*key)).copied()
+        let mut next = self.heads[pair(key)];
+        while next > 0 {
+            let n = next - 1;
+            if self.keys[n as usize] == *key {
+                return Some(n);
+            }
+            next = self.older[n as usize];
+        }
+        None
     }
 
     /// Enters a key under the next number, which it returns, or leaves all as it is where 4,096 keys are there.
@@ -37,15 +49,22 @@ impl Index {
         ensures value { result ≡ (if nat_lt (length (keys_of self.old)) 4096 then Some (length (keys_of self.old)) else None) }
         ensures keys { keys_of self.new ≡ (if is_some result then keys_of self.old ++ key ∷ [] else keys_of self.old) }
     {
-        let n = self.len();
-        if n as usize == MOST {
+        if self.keys.len() == MOST {
             return None;
         }
-        // There has been room for it since the start, so this can't fail, and `unwrap` is proved. The type is written since a want
-        // of memory would else have to be handed on by `?`.
-        let entered: Result<_, _> = self.numbers.insert(Key(key), n);
-        entered.unwrap();
+        let n = self.keys.len() as u32;
+        let at = pair(&key);
+        self.older.push_reserved(self.heads[at]);
+        self.heads[at] = n + 1;
         self.keys.push_reserved(key);
         Some(n)
     }
+}
+
+// The first two bytes of a key as one number.
+fn pair(key: &[u8; 32]) -> usize
+    ensures value { result ≡ bucket key.now }
+    ensures bound { result < 65536 }
+{
+    key[0] as usize * 256 + key[1] as usize
 }

@@ -40,8 +40,7 @@ fn rehearse<W: Write>(heap: Global, out: &mut W, input: &[u8]) -> Result<(), Fau
     let (line, script) = text::first_line(input).ok_or(Fault::Input(BAD_WEIGHTS))?;
     // Nothing that is answered yet asks for the voters.
     let _voters = Voters::read(line).ok_or(Fault::Input(BAD_WEIGHTS))?;
-    let text = String::new(heap);
-    console::answer_lines(&mut Script { text }, heap, out, 2, script)?;
+    console::answer_lines(&mut Script, heap, out, 2, script)?;
     // No page but the one numbered 0 is settled, and none is final.
     out.write_all(b"settled 0\nfinal\n")?;
     Ok(())

@@ -1,6 +1,6 @@
 -- The table of hexadecimal digits is its rule at each place, which antt computes over the whole table.
-use Rattle.std.proofs.Common.{◌≡◌, ℕ, ◌<◌, ◌/◌, ◌%◌, List, [], ◌∷◌, ◌++◌, map, get_or, replicate, Some, None, Option, sym, ◌∙◌, zero-add}
-use Rattle.std.specs.List.{range_with_len}
+use Rattle.std.proofs.Common.{◌≡◌, ℕ, ◌<◌, List, [], ◌∷◌, ◌++◌, map, get_or, replicate, Some, None, Option, zero-add}
+use Rattle.std.specs.List.{range_with_len, flat_map}
 use Rattle.std.proofs.lemmas.List.FromFn.{get_or-map-range_with_len}
 use Rattle.text.specs.Hex.{hex_digit_of}
 use Rattle.text.specs.Numbers.{hex_value}
@@ -22,8 +22,5 @@ none = replicate 16 None
 abbrev pub table : List (List (Option ℕ))
 table = none ∷ none ∷ none ∷ figures ∷ letters ∷ none ∷ letters ∷ replicate 9 none
 
-abbrev entry : ℕ → Option ℕ
-entry b = get_or (get_or table (b / 16) []) (b % 16) None
-
-pub value_at : (b : ℕ) → b < 256 → get_or (get_or table (b / 16) []) (b % 16) None ≡ hex_value b
-value_at b h = sym (get_or-map-range_with_len entry 0 256 b b None h (zero-add b)) ∙ get_or-map-range_with_len hex_value 0 256 b b None h (zero-add b)
+pub value_at : (b : ℕ) → b < 256 → get_or (flat_map (λ r. r) table) b None ≡ hex_value b
+value_at b h = get_or-map-range_with_len hex_value 0 256 b b None h (zero-add b)

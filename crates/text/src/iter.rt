@@ -4,6 +4,7 @@ ghost use Rattle.std.specs.Iterator.{YieldsFirstBy, item_count};
 
 use crate::{first_line, first_word};
 use std::marker::Model;
+use std::mem;
 
 /// The lines of an input, seen as the list of those that are left.
 #[derive(Clone, Debug, Drop)]
@@ -57,8 +58,11 @@ impl<'a> Iterator for Words<'a> {
 
     ghost remaining = { item_count (λ left. left) };
 
+    #[tactic(auto, unfolding(crate::specs::Words::words, crate::specs::Pieces::pieces))]
     fn next(&mut self) -> Option<&'a [u8]> {
-        let (word, rest) = first_word(self.rest)?;
+        // Taken, and not only read: where no word is left, nothing is left, so that a tail of spaces is passed over once
+        // and not again by each further call.
+        let (word, rest) = first_word(mem::take(&mut self.rest))?;
         self.rest = rest;
         Some(word)
     }

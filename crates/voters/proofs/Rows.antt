@@ -42,21 +42,13 @@ filling_more ws left row n w x f room e small =
       here = take_more_set row n x (let a = f.few in let b = f.long in omega arith)
 
 -- all words are read
-pub filled : (ws : List (List ℕ)) (row : List ℕ) (n : ℕ) → Filling ws [] row n → Row ws row (length ws)
+pub filled : (ws : List (List ℕ)) (row : List ℕ) (n : ℕ) → Filling ws [] row n → Row ws row n
 filled ws row n f =
-    subst (λ m. Row ws row m) count (record {
-      listed = record { values = values; few = omega (arith, long, f.few); light = f.light };
+    record {
+      listed = record { values = f.values ∙ append-nil (map Some (take n row)); few = omega (arith, length-take-le n row (omega (arith, f.few, f.long)), f.few); light = f.light };
       within = omega (arith, f.few);
       past = f.past;
-    }) where
-      values : map decimal_of ws ≡ map Some (take n row)
-      values = f.values ∙ append-nil (map Some (take n row))
-
-      long : length (take n row) ≡ n
-      long = length-take-le n row (omega (arith, f.few, f.long))
-
-      count : n ≡ length ws
-      count = sym long ∙ sym (length-map (take n row) Some) ∙ ap length (sym values) ∙ length-map ws decimal_of
+    }
 
 -- a word that isn't a weight
 pub filling_bad : (ws left : List (List ℕ)) (row : List ℕ) (n : ℕ) (w : List ℕ) → Filling ws (w ∷ left) row n → ((x : ℕ) → decimal_of w ≡ Some x → x ≤ 1000000 → ⊥) →

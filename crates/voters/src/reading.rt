@@ -18,12 +18,12 @@ impl Voters {
         if head != b"weights".as_slice() {
             return None;
         }
-        let weights = row(rest)?;
+        let (weights, count) = row(rest)?;
         // A line with no number at all ends here too.
         if weights.iter().all(|w| *w == 0) {
             return None;
         }
-        let count = text::words(rest).count() as u32;
+        let count = count as u32;
         Some(Voters { count, weights })
     }
 
@@ -54,19 +54,22 @@ impl Voters {
     }
 }
 
-// The weights that the words of `s` are, with 0 at the places behind them.
-fn row(s: &[u8]) -> Option<[u32; MOST]>
-    ensures { MatchOption result ((xs : List ℕ) → Lists (words s.now) xs → ⊥) (λ row. Row (words s.now) row (length (words s.now))) }
+// The weights that the words of `s` are, with 0 at the places behind them, and how many they are: to count the words by themselves
+// would be to go through the line once more.
+fn row(s: &[u8]) -> Option<([u32; MOST], usize)>
+    ensures { MatchOption result ((xs : List ℕ) → Lists (words s.now) xs → ⊥) (λ p. Row (words s.now) p.0 p.1) }
 {
     let mut weights = [0u32; MOST];
+    let mut count = 0;
     // By place: of a row that is written through `iter_mut` nothing would be known but its length.
     for (voter, word) in text::words(s).enumerate() {
         if voter == MOST {
             return None;
         }
         weights[voter] = weight(word)?;
+        count = voter + 1;
     }
-    Some(weights)
+    Some((weights, count))
 }
 
 // The weight that a word is.
