@@ -26,7 +26,7 @@ impl From<AllocError> for Fault {
     }
 }
 
-// For what writes to a `String`, which fails only for want of memory.
+// For what prints into memory, which fails only for want of it.
 impl From<fmt::Error> for Fault {
     ghost from_gives = { λ _ r. r ≡ Memory };
 
