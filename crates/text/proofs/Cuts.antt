@@ -3,6 +3,8 @@ use Rattle.std.proofs.Common.{rules, ◌≢◌, ◌≡◌, ℕ, ◌+◌, ◌-◌
 use Rattle.std.proofs.lemmas.Bool.{eq-eqb, ne_eqb, cond-true, cond-false}
 use Rattle.std.proofs.lemmas.List.Elements.{All-from_get_or, recursion_from_All}
 use Rattle.std.proofs.lemmas.Grind.{common_steps}
+use Rattle.std.proofs.lemmas.List.{drop-drop, drop_all, take_all, take_rest}
+use Rattle.std.proofs.Math.Nat.{eq-or-lt_of_le}
 use Rattle.std.specs.List.{AllByRecursion}
 use Rattle.text.specs.Lines.{chomp, lines, FirstLine}
 use Rattle.text.specs.Pieces.{Free, Cut, onto, pieces}
@@ -24,6 +26,18 @@ cut_at c s n h free stops =
 
 pub cut_none : (c : ℕ) (s : List ℕ) → ((k : ℕ) → k < length s → get_or s k 0 ≢ c) → Cut c s s []
 cut_none c s free = record { free = by_places _ s free; whole = inr (refl, refl) }
+
+-- n is where the first c of s stands, or where s ends
+abbrev pub Stops : ℕ → List ℕ → ℕ → Type 0
+Stops c s n = ((k : ℕ) → k < n → get_or s k 0 ≢ c) × (n < length s → get_or s n 0 ≡ c)
+
+pub cut_stop : (c : ℕ) (s : List ℕ) (n : ℕ) → n ≤ length s → Stops c s n → Cut c s (take n s) (drop 1 (drop n s))
+cut_stop c s n within stops = rw drop-drop (elim (eq-or-lt_of_le within) [ inl e ↦ ended e | inr lt ↦ found lt ]) where
+  ended : n ≡ length s → Cut c s (take n s) (drop (n + 1) s)
+  ended e = rw (take_all n s (omega arith), drop_all (n + 1) s (omega arith)) (cut_none c s (λ k lt. stops.0 k (omega arith)))
+
+  found : n < length s → Cut c s (take n s) (drop (n + 1) s)
+  found lt = let k = cut_at c s n lt stops.0 (stops.1 lt) in rw take_rest at k
 
 -- what goes on to the first c is the first piece, and the others are the pieces of what follows it
 pub pieces_at : (c : ℕ) (front rest : List ℕ) → Free c front → pieces c (front ++ c ∷ rest) ≡ front ∷ pieces c rest

@@ -14,15 +14,14 @@ pub use hex::{hex_byte, hex_pair, hex_round_trip_stands};
 pub use iter::{Lines, Words};
 pub use numbers::{decimal, hex_digit};
 
-// What stands before the first `end`, and what follows it.
-#[tactic(auto, using(crate::proofs::Cuts::cut_none))]
+// What stands before the first `end`, and what follows it. Both are cut at one place, found or not: with an arm for each, the search
+// would keep a pointer beside its count, and long lines would take longer.
 fn cut(s: &[u8], end: u8) -> (&[u8], &[u8])
     ensures { Cut end s.now result.0.now result.1.now }
 {
-    match s.iter().position(|&b| b == end) {
-        Some(n) => (&s[..n], &s[n + 1..]),
-        None => (s, &[]),
-    }
+    let n = s.iter().position(|&b| b == end).unwrap_or(s.len());
+    let (front, rest) = s.split_at(n);
+    (front, rest.get(1..).unwrap_or(rest))
 }
 
 // Input from other systems ends its lines by a carriage return and a newline.

@@ -14,15 +14,14 @@ pub fn decimal(word: &[u8]) -> Option<u32>
     word.iter().try_fold(0, |value, b| append_digit(value, *b))
 }
 
-// The number that the digits of `value` and then this one write. Not by `char::to_digit`, with which a digit takes 17 instructions in
-// place of 14.
+// The number that the digits of `value` and then this one write: worked out in 64 bits, where no product wraps.
 fn append_digit(value: u32, b: u8) -> Option<u32>
     ensures { SomeIff result (IsTrue (is_ascii_digit b) × (value * 10 + (b - 48) < 2 ^ 32)) (value * 10 + (b - 48)) }
 {
     if !b.is_ascii_digit() {
         return None;
     }
-    value.checked_mul(10)?.checked_add(u32::from(b - b'0'))
+    u32::try_from(u64::from(value) * 10 + u64::from(b - b'0')).ok()
 }
 
 /// What a hexadecimal digit, of either case, is worth.
